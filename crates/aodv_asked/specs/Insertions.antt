@@ -1,4 +1,4 @@
--- Where an id lies among intervals, and the intervals with one more id.
+-- Where an id is among intervals, and the intervals with one more id.
 use Rattle.std.specs.Prelude.{◌==◌, ℕ, ◌+◌, ◌-◌, Bool, false, if◌then◌else◌, nat_lt, nat_le, ◌&&◌, ◌||◌, List, [], ◌∷◌, slice_index_or}
 use Rattle.aodv_asked.specs.declared.interval.Interval.{Interval}
 
@@ -19,7 +19,7 @@ is_in (v ∷ vs) id = (nat_le v.first id && nat_le id v.last) || is_in vs id
 abbrev pub is_near_to : List Interval → ℕ → Bool
 is_near_to vs id = is_in vs id || (is_in vs (id + 1) || (nat_lt 0 id && is_in vs (id - 1)))
 
--- the interval grows at its end, and joins the next where they come to adjoin
+-- the interval grows up to the id, and joins the next one if they then adjoin
 abbrev pub extension : Interval → ℕ → List Interval → List Interval
 extension v id [] = interval v.first id ∷ []
 extension v id (w ∷ ws) =

@@ -1,4 +1,4 @@
--- The ids beside one originator, as rising intervals that neither meet nor adjoin.
+-- The ids of one originator, as rising intervals that neither overlap nor adjoin.
 use Rattle.std.specs.Prelude.{◌≡◌, ◌<◌, ◌≤◌, ◌||◌, ◌&&◌, nat_lt, ℕ, zero, suc, ◌+◌, ◌-◌, Bool, true, false, List, [], ◌∷◌, Option, Some, None}
 use Rattle.std.specs.Ordering.{nat_cmp}
 use Rattle.std.specs.FinSet.{FinSet, empty, insert, contains}
@@ -21,12 +21,12 @@ unfoldable pub ids_in : List Interval → IdSet
 ids_in [] = empty
 ids_in (v ∷ vs) = with_range (ids_in vs) v.first (v.last + 1 - v.first)
 
--- the intervals rise from `low` on, and between two of them is an id that is in neither
+-- the intervals rise from `low` on, and any two of them have an id between them that is in neither
 abbrev pub AreApart : ℕ → List Interval → Type 0
 AreApart low [] = Unit {0}
 AreApart low (v ∷ vs) = (low ≤ v.first) × (v.first ≤ v.last) × AreApart (v.last + 2) vs
 
--- what is seen: the ids, and for how many more there is room, whatever they are
+-- what is seen of a set of ids: the ids, and how many more it has room for, whatever they are
 pub record RoomyIds : Type 0 where
   pub ids : IdSet
   pub room : ℕ
@@ -42,7 +42,7 @@ abbrev pub is_near_in : IdSet → ℕ → Bool
 is_near_in ids id =
     contains ids id || (contains ids (id + 1) || (nat_lt 0 id && contains ids (id - 1)))
 
--- the greatest id
+-- the greatest id, if there is one
 abbrev pub IsGreatest : IdSet → Option ℕ → Type 0
 IsGreatest ids None = (id : ℕ) → contains ids id ≡ false
 IsGreatest ids (Some greatest) =

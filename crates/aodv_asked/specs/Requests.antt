@@ -5,8 +5,8 @@ use Rattle.std.specs.FinSet as sets
 use Rattle.aodv_model.specs.Cores.{SeenRequests, next_request_id}
 use Rattle.aodv_model.specs.Codes.{pairs_code}
 
--- what is seen: the requests, and for each node of the mesh for how many more ids of its own there
--- is room, whatever they are
+-- what is seen of them: the requests, and how many more ids of each node of the mesh there is room
+-- for, whatever they are
 pub record RoomySeen : Type 0 where
   pub pairs : SeenRequests
   pub rooms : List ℕ
@@ -17,13 +17,13 @@ seen_code =
     code_by (SeenRequests × List ℕ) (coded× pairs_code (coded_list coded_ℕ))
     (λ s. (s.pairs, s.rooms)) (λ p. record { pairs = p.0; rooms = p.1 }) (λ _. refl)
 
--- the id, the one after it or the one before it stands beside o
+-- o's request with this id, with the one after it or with the one before it was seen
 abbrev pub is_near : SeenRequests → ℕ → ℕ → Bool
 is_near seen o id =
     sets.contains seen (o, id)
     || (sets.contains seen (o, id + 1) || (nat_lt 0 id && sets.contains seen (o, id - 1)))
 
--- the least id beside o that is not below `from`
+-- the least id of o that was seen and isn't below `from`, if there is one
 abbrev pub IsLeastIdFrom : SeenRequests → ℕ → ℕ → Option ℕ → Type 0
 IsLeastIdFrom seen o from None = (id : ℕ) → from ≤ id → sets.contains seen (o, id) ≡ false
 IsLeastIdFrom seen o from (Some least) =

@@ -1,11 +1,11 @@
--- The intervals of a list, and where they stand.
+-- How the intervals of a list are kept.
 use Rattle.std.specs.Prelude.{◌-◌, [], ◌∷◌}
 use Rattle.std.specs.Vec.{vec_len, vec_capacity}
 use Rattle.aodv_asked.specs.declared.intervals.Storage.{Storage}
 use Rattle.aodv_asked.specs.declared.intervals.Storage.TheVariants.{Empty, One, Few, Many}
 use Rattle.aodv_asked.specs.Spots.{RoomyIntervals}
 
--- the list that the storage shows
+-- what is seen of a list that is kept so
 abbrev pub stored : Storage → RoomyIntervals
 stored Empty = record { items = []; room = 1; lengths = [] }
 stored (One v) = record { items = v ∷ []; room = 0; lengths = [] }

@@ -1,4 +1,5 @@
--- The last interval of each originator's ids, kept apart from its row, which has the ids before it.
+-- The last interval of each originator's ids, kept separately from its row, which has the ids
+-- before it.
 use Rattle.std.specs.Prelude.{◌≡◌, ◌≢◌, ◌<◌, ◌⊎◌, ℕ, ◌+◌, ◌-◌, Bool, true, if◌then◌else◌, nat_lt, List, [], ◌∷◌, length, slice_index_or}
 use Rattle.std.specs.FinSet.{empty, insert, contains}
 use Rattle.mesh_base.specs.Members.{NodeIds}
@@ -19,16 +20,16 @@ with_interval ids v = with_range ids v.first (v.last + 1 - v.first)
 abbrev pub ids_of : Interval → IdSet
 ids_of v = with_interval empty v
 
--- each id is before the number, and not next to it
+-- each id is below the number, and not next to it
 abbrev pub AreBefore : IdSet → ℕ → Type 0
 AreBefore ids n = (id : ℕ) → contains ids id ≡ true → id + 1 < n
 
--- the interval stands behind the ids and apart from them; one without ids begins at 1, so that
--- there are none before it
+-- the interval comes after the ids and doesn't adjoin them; one without ids begins at 1, so that
+-- there are no ids before it
 abbrev pub IsBehind : IdSet → Interval → Type 0
 IsBehind ids v = AreBefore ids v.first × (v.last < v.first → v.first ≡ 1)
 
--- one interval has an id more than another, behind whatever ids the other stands
+-- `grown` is v with one id more, whatever ids v comes after
 abbrev pub HasOneMore : Interval → ℕ → Interval → Type 0
 HasOneMore v id grown =
     (ids : IdSet)
@@ -39,26 +40,26 @@ HasOneMore v id grown =
 abbrev pub top_at : List Interval → ℕ → Interval
 top_at tops o = slice_index_or tops o no_top
 
--- for how many more ids there is room in o's row
+-- how many more ids o's row has room for
 abbrev pub room_at : List RoomyIds → ℕ → ℕ
 room_at rows o = (slice_index_or rows o no_ids).room
 
--- room for one id, where the interval is without ids
+-- room for one id, if the interval is without ids
 abbrev pub room_in : Interval → ℕ
 room_in v = if nat_lt v.last v.first then 1 else 0
 
--- a row with an interval behind it: the ids of both, and the room of both
+-- a row with an interval after it: the ids of both, and the room of both
 abbrev pub with_top : RoomyIds → Interval → RoomyIds
 with_top row v = record { ids = with_interval row.ids v; room = row.room + room_in v }
 
--- each row with its last interval behind it
+-- each row with its last interval after it
 unfoldable pub rows_with_tops : List RoomyIds → List Interval → List RoomyIds
 rows_with_tops rows [] = rows
 rows_with_tops [] (v ∷ tops) = []
 rows_with_tops (row ∷ rows) (v ∷ tops) = with_top row v ∷ rows_with_tops rows tops
 
--- a last interval stands behind each row; the row has room where that interval is without ids, and
--- where its node is roomy
+-- each row has a last interval after it; the row has room if that interval is without ids, and if
+-- its node is roomy
 pub record AreKept (rows : List RoomyIds) (tops : List Interval) (roomy : NodeIds) : Type 0 where
   pub each : length tops ≡ length rows
   pub behind : (o : ℕ) → IsBehind (ids_at rows o) (top_at tops o)
@@ -69,7 +70,7 @@ pub record AreKept (rows : List RoomyIds) (tops : List Interval) (roomy : NodeId
       → 0 < room_at rows o
   pub room : (o : ℕ) → contains roomy o ≡ true → 0 < room_at rows o
 
--- each roomy node is o, if it has room, or another one that was roomy before
+-- each node that is then roomy is o, if o has room, or another one that was roomy before
 abbrev pub AreNoted : NodeIds → ℕ → Bool → NodeIds → Type 0
 AreNoted before o has_room after =
     (q : ℕ)

@@ -11,10 +11,10 @@ use mesh_base::{NoMemory, NodeSet};
 use std::alloc::Global;
 use std::marker::Model;
 
-/// For each originator the ids of its requests that were seen. Its last interval of ids stands in
-/// an array of its own, of 8 bytes an originator, since most requests that are heard are copies of
-/// the newest one: these look at no row. `roomy` has the originators whose row is known to have
-/// room. What is read for each request that is heard, `tops` and `roomy`, stands together.
+/// For each originator, the ids of its requests that were seen. The last interval of its ids is in
+/// an array of its own, with 8 bytes for each originator: most requests that are heard are copies
+/// of the newest one, and these look at no row. `roomy` has the originators whose row is known to
+/// have room. What is read for each request that is heard, `tops` and `roomy`, is kept together.
 #[derive(Drop)]
 pub struct Asked {
     tops: Vec<Interval>,
@@ -41,7 +41,7 @@ impl Model for Asked {
     ghost invariant = { λ a. AreKept a.rows.items a.tops.items a.roomy };
 }
 
-// Notes whether o's row has room. Of a node from index 256 on it isn't noted.
+// Notes whether o's row has room. For a node from index 256 on nothing is noted.
 fn note_room(roomy: &mut NodeSet, o: usize, has_room: bool)
     ensures { AreNoted roomy.old o has_room roomy.new }
 {
@@ -56,7 +56,7 @@ fn note_room(roomy: &mut NodeSet, o: usize, has_room: bool)
 
 #[tactic(auto, using(crate::proofs::KeptLaws::nodes_seen))]
 impl Asked {
-    /// No requests, in a mesh of so many nodes, and room for two ids of each.
+    /// No requests, in a mesh with this many nodes, and room for two ids of each.
     pub fn new(alloc: Global, nodes: usize) -> Result<Asked, NoMemory>
         ensures pairs { IfOk result (λ asked. asked.pairs ≡ sets.empty) }
         ensures nodes { IfOk result (λ asked. length asked.rooms ≡ nodes) }
@@ -85,8 +85,8 @@ impl Asked {
         self.rows.len()
     }
 
-    /// Whether o's request with this id was seen. Of an id that is not below the last interval it
-    /// looks at no row, and otherwise it is a binary search.
+    /// Whether o's request with this id was seen. For an id that isn't below the last interval it
+    /// looks at no row; for any other it is a binary search.
     #[inline(always)]
     pub fn has(&self, o: usize, id: u32) -> bool
         requires { o < length self.now.rooms }
@@ -99,7 +99,7 @@ impl Asked {
         self.rows[o].has(id)
     }
 
-    /// Makes room for one more id of o. It asks for memory only where there is none.
+    /// Makes room for one more id of o. It asks for memory only if there is no room yet.
     #[inline(always)]
     pub fn make_room(&mut self, o: usize) -> Result<(), NoMemory>
         requires { o < length self.old.rooms }
@@ -111,7 +111,7 @@ impl Asked {
         ensures keeps { (q : ℕ) → slice_index self.old.rooms q ≤ slice_index self.new.rooms q }
         ensures refused { OnErr result (self.new ≡ self.old) }
     {
-        // Nearly always there is room, and seeing that looks at no row.
+        // There nearly always is room, and no row is looked at to see that.
         if self.roomy.has(o) {
             return Ok(());
         }
@@ -121,8 +121,8 @@ impl Asked {
         Ok(())
     }
 
-    /// o's request with this id was seen. It uses up at most the room for one id of o. No room is
-    /// needed where the id or one next to it stands beside o.
+    /// Records that o's request with this id was seen. It uses up at most the room for one id of o.
+    /// It needs no room if the id or one next to it was seen from o already.
     pub fn insert(&mut self, o: usize, id: u32)
         requires within { o < length self.old.rooms }
         requires room { (0 < slice_index self.old.rooms o) ⊎ IsTrue (is_near self.old.pairs o id) }
@@ -144,8 +144,8 @@ impl Asked {
         note_room(&mut self.roomy, o, has_room);
     }
 
-    /// One more than the greatest id of o that was seen, and 1 where there is none. None says that
-    /// the greatest is the last of 32 bits. It looks at no other id.
+    /// One more than the greatest id of o that was seen, or 1 if none was. None means that the
+    /// greatest is the last of 32 bits. It looks at no other id.
     pub fn next_id(&self, o: usize) -> Option<u32>
         requires { o < length self.now.rooms }
         ensures full { IsNone result ↔ (last_request_id self.now.pairs o ≡ 4294967295) }
@@ -158,8 +158,8 @@ impl Asked {
         }
     }
 
-    /// How many ids of o were seen. It looks at none of them: ids that follow one another are
-    /// counted at once.
+    /// How many ids of o were seen. It doesn't look at each id: those that follow one another are
+    /// counted in one step.
     pub fn count(&self, o: usize) -> u64
         requires { o < length self.now.rooms }
         ensures { result ≡ length (ids_beside self.now.pairs o) }
@@ -167,7 +167,7 @@ impl Asked {
         self.rows[o].count() + self.tops[o].count()
     }
 
-    /// The least id beside o.
+    /// The least id of o that was seen.
     pub fn first(&self, o: usize) -> Option<u32>
         requires { o < length self.now.rooms }
         ensures { IsLeastIdFrom self.now.pairs o 0 result }
@@ -175,7 +175,7 @@ impl Asked {
         self.least_from(o, 0)
     }
 
-    /// The least id beside o that is above `id`.
+    /// The least id of o that was seen and is above `id`.
     pub fn after(&self, o: usize, id: u32) -> Option<u32>
         requires { o < length self.now.rooms }
         ensures { IsLeastIdFrom self.now.pairs o (id + 1) result }
@@ -183,7 +183,7 @@ impl Asked {
         self.least_from(o, u64::from(id) + 1)
     }
 
-    // The least id beside o that is not below `from`.
+    // The least id of o that was seen and isn't below `from`.
     fn least_from(&self, o: usize, from: u64) -> Option<u32>
         requires { o < length self.now.rooms }
         ensures { IsLeastIdFrom self.now.pairs o from result }

@@ -1,4 +1,4 @@
-//! Many intervals, in chunks: what is put between others moves those of one chunk alone.
+//! Many intervals, in chunks: an insertion moves the intervals of one chunk only.
 ghost use Rattle.std.specs.Prelude.{◌≡◌, ◌<◌, ◌≤◌, ◌+◌, ◌++◌, ◌∷◌, ℕ, [], length, nat_lt, insert, remove, slice_set, vec_len, vec_capacity, IfOk, OnOk, IsOk, OnErr};
 ghost use Rattle.aodv_asked.specs.Intervals.{AreApart};
 ghost use Rattle.aodv_asked.specs.Insertions.{interval_at};
@@ -10,11 +10,12 @@ use std::alloc::Global;
 use std::marker::Model;
 use std::mem;
 
-/// How many intervals a chunk has room for.
+/// The least number of intervals that a chunk has room for.
 pub(crate) const CHUNK: usize = 256;
 
-/// The intervals in chunks of which none is empty, and an empty chunk in store: an interval that
-/// finds its chunk full takes no memory. A slot for a new chunk among the others is reserved too.
+/// The intervals, in chunks none of which is empty. While there is room for one more interval,
+/// there are a spare empty chunk and a reserved slot for it among the others, so that an interval
+/// whose chunk is full takes no memory.
 #[derive(Drop)]
 pub(crate) struct Chunks {
     chunks: Vec<Vec<Interval>>,
@@ -51,7 +52,7 @@ fn ends_before(chunk: &Vec<Interval>, from: u64) -> bool
     u64::from(chunk[len - 1].last) < from
 }
 
-// Puts an interval into a chunk that has room, before those from the offset on.
+// Inserts an interval at an offset of a chunk that has room.
 fn put_at(chunk: &mut Vec<Interval>, offset: usize, v: Interval)
     requires offset { offset ≤ vec_len chunk.old }
     requires room { vec_len chunk.old < vec_capacity chunk.old }
@@ -63,8 +64,8 @@ fn put_at(chunk: &mut Vec<Interval>, offset: usize, v: Interval)
     }
 }
 
-// Puts an interval into a full chunk, and moves the chunk's upper half into the spare one, which
-// is returned.
+// Inserts an interval into a full chunk. The chunk's upper half, or CHUNK / 2 intervals if that is
+// fewer, moves into the spare chunk, which is returned.
 fn put_in_halves(
     chunk: &mut Vec<Interval>,
     mut spare: Vec<Interval>,
@@ -95,7 +96,7 @@ fn put_in_halves(
 
 impl Chunks {
     /// The intervals of a full list as the first chunk, and room for one more. They leave the list
-    /// only where there is the memory for that.
+    /// only if there is enough memory.
     pub(crate) fn of_full(alloc: Global, few: &mut Vec<Interval>) -> Result<Box<Chunks>, NoMemory>
         requires { 0 < length few.old.items }
         ensures items { IfOk result (λ b. b.value.items ≡ few.old.items) }
@@ -140,7 +141,7 @@ impl Chunks {
     }
 
     /// The first interval that doesn't end before `from`: a binary search for its chunk, and one
-    /// within that.
+    /// within the chunk.
     pub(crate) fn find(&self, from: u64) -> Option<Spot>
         requires { AreApart 0 self.now.items }
         ensures { IsFirstFrom self.now from result }
@@ -170,7 +171,7 @@ impl Chunks {
         })
     }
 
-    /// The interval behind the one at a spot.
+    /// The interval after the one at a spot.
     pub(crate) fn behind(&self, spot: Spot) -> Option<Spot>
         requires { IsThere self.now spot }
         ensures { IsBehindSpot self.now spot result }
@@ -199,7 +200,7 @@ impl Chunks {
         self.chunks[spot.chunk][spot.offset]
     }
 
-    /// Puts an interval at a spot, where another was.
+    /// Replaces the interval at a spot.
     pub(crate) fn set(&mut self, spot: Spot, v: Interval)
         requires { IsThere self.old spot }
         ensures items { self.new.items ≡ slice_set self.old.items (position_of self.old spot) v }
@@ -210,7 +211,7 @@ impl Chunks {
         chunk[spot.offset] = v;
     }
 
-    /// Puts an interval before the one at a spot.
+    /// Inserts an interval before the one at a spot.
     pub(crate) fn insert(&mut self, spot: Spot, v: Interval)
         requires spot { IsThere self.old spot }
         requires room { 0 < self.old.room }
@@ -234,7 +235,7 @@ impl Chunks {
         }
     }
 
-    /// Puts an interval behind the others.
+    /// Adds an interval after the others.
     pub(crate) fn push(&mut self, v: Interval)
         requires { 0 < self.old.room }
         ensures items { self.new.items ≡ self.old.items ++ v ∷ [] }
@@ -254,7 +255,7 @@ impl Chunks {
         }
     }
 
-    /// Takes the interval at a spot away, and its chunk where it was the only one there.
+    /// Removes the interval at a spot, and its chunk if it was the only one there.
     pub(crate) fn remove(&mut self, spot: Spot)
         requires { IsThere self.old spot }
         ensures items { self.new.items ≡ remove self.old.items (position_of self.old spot) }

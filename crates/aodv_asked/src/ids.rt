@@ -1,4 +1,4 @@
-//! Ids as rising intervals that neither meet nor adjoin.
+//! Ids as rising intervals that neither overlap nor adjoin.
 ghost use Rattle.std.specs.Prelude.{◌≡◌, ◌<◌, ◌≤◌, ◌+◌, ◌-◌, ◌⊎◌, ℕ, nat_lt, IsOk, OnOk, OnErr, IsTrue, length};
 ghost use Rattle.std.specs.FinSet as sets;
 ghost use Rattle.mesh_base.specs.Members.{IsLeastFrom, members_below};
@@ -14,7 +14,7 @@ use mesh_base::NoMemory;
 use std::alloc::Global;
 use std::marker::Model;
 
-/// A set of ids. One interval takes no memory.
+/// A set of ids. One of a single interval takes no memory.
 #[derive(Drop)]
 pub(crate) struct Ids {
     intervals: Intervals,
@@ -37,7 +37,7 @@ impl Model for Ids {
     ghost invariant = { λ a. AreApart 0 a.intervals.items };
 }
 
-// The first interval that doesn't end before the id and apart from it.
+// The first interval that ends right before the id, at it or after it.
 fn find_near(intervals: &Intervals, id: u32) -> Option<Spot>
     requires { AreApart 0 intervals.now.items }
     ensures { IsFirstFrom intervals.now (id - 1) result }
@@ -45,7 +45,7 @@ fn find_near(intervals: &Intervals, id: u32) -> Option<Spot>
     intervals.find(u64::from(id.saturating_sub(1)))
 }
 
-// The intervals with one more id.
+// Adds an id to the intervals.
 fn put(intervals: &mut Intervals, id: u32)
     requires apart { AreApart 0 intervals.old.items }
     requires room { (0 < intervals.old.room) ⊎ IsTrue (is_near_to intervals.old.items id) }
@@ -61,8 +61,8 @@ fn put(intervals: &mut Intervals, id: u32)
     }
 }
 
-// The intervals with one more id, where the first that doesn't end before it and apart from it
-// stands at the spot.
+// Adds an id to the intervals. The spot is that of the first interval that ends right before the
+// id, at it or after it.
 fn put_from(intervals: &mut Intervals, spot: Spot, id: u32)
     requires apart { AreApart 0 intervals.old.items }
     requires near { IsFirstFrom intervals.old (id - 1) (Some spot) }
@@ -149,7 +149,8 @@ impl Ids {
         put(&mut self.intervals, id);
     }
 
-    /// Adds the ids of an interval that stands behind the others. It takes no memory.
+    /// Adds the ids of an interval that comes after the others and adjoins none. It takes no
+    /// memory.
     fn push(&mut self, top: Interval)
         requires room { 0 < self.old.room }
         requires some { top.first ≤ top.last }
@@ -160,8 +161,8 @@ impl Ids {
         self.intervals.push(top);
     }
 
-    /// Takes away the ids that lead up to `id`, one after another, and returns the first of them,
-    /// or `id` where there is none. All are below it.
+    /// Removes the ids that lead up to `id`, one after another, and returns the first of them, or
+    /// `id` if there are none. All ids are below `id`.
     fn take_up_to(&mut self, id: u32) -> u32
         requires { AreBelow id self.old.ids }
         ensures within { result ≤ id }
@@ -182,9 +183,9 @@ impl Ids {
         }
     }
 
-    /// Adds an id beside the ids here and those of `top`, the interval that stands behind them. It
-    /// is below that interval, or above it and apart from it. What is returned stands behind the
-    /// ids then. It takes no memory.
+    /// Adds an id to the ids here and those of `top`, the interval after them. The id is below that
+    /// interval, or above it and not next to it. The interval that is returned then comes after the
+    /// ids here. It takes no memory.
     pub(crate) fn insert_beside(&mut self, top: Interval, id: u32) -> Interval
         requires some { top.first ≤ top.last }
         requires behind { IsBehind self.old.ids top }
@@ -214,8 +215,8 @@ impl Ids {
         }
     }
 
-    /// How many ids there are: how many of them are below any number that is above all. It looks at
-    /// each interval once, and at no id.
+    /// How many ids there are. (The contract says how many of them are below any number that is
+    /// above all.) It looks at each interval once, but not at each id.
     pub(crate) fn count(&self) -> u64
         ensures { (n : ℕ) → AreBelow n self.now.ids
             → result ≡ length (members_below n self.now.ids) }

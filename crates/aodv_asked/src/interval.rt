@@ -5,14 +5,14 @@ ghost use Rattle.aodv_asked.specs.Intervals.{AreApart, IsGreatest};
 ghost use Rattle.aodv_asked.specs.Spots.{IsPosition, total};
 ghost use Rattle.aodv_asked.specs.Tops.{no_top, ids_of, HasOneMore};
 
-/// The ids from `first` to `last`. Where there is none, `first` is 1 and `last` is 0.
+/// The ids from `first` to `last`. If there are none, `first` is 1 and `last` is 0.
 #[derive(Clone, Copy, Default)]
 pub(crate) struct Interval {
     pub(crate) first: u32,
     pub(crate) last: u32,
 }
 
-/// Where an interval of a list stands: its chunk, and its offset in that.
+/// Where an interval is in its list: its chunk, and its offset there.
 #[derive(Clone, Copy)]
 pub(crate) struct Spot {
     pub(crate) chunk: usize,
@@ -27,7 +27,7 @@ pub(crate) fn count_before(intervals: &[Interval], from: u64) -> usize
     intervals.partition_point(|v| u64::from(v.last) < from)
 }
 
-/// So many more than `count` as the intervals have ids. It looks at no id.
+/// `count` plus the number of ids of the intervals. It doesn't look at each id.
 pub(crate) fn count_on(mut count: u64, intervals: &[Interval]) -> u64
     requires { AreApart count intervals.now }
     ensures { result ≡ count + total intervals.now }
@@ -38,12 +38,12 @@ pub(crate) fn count_on(mut count: u64, intervals: &[Interval]) -> u64
     count
 }
 
-/// A number that is at most this one of 32 bits.
+/// The number n in 32 bits. It is at most `most`, which has 32 bits.
 pub(crate) fn narrowed(n: u64, most: u32) -> u32
     requires { n ≤ most }
     ensures { result ≡ n }
 {
-    // It says that `most` is a number of 32 bits.
+    // This tells the prover that `most` is a number of 32 bits.
     let _most = most;
     n as u32
 }
@@ -56,8 +56,8 @@ impl Interval {
         Interval { first: 1, last: 0 }
     }
 
-    /// The interval with one more id, which is in it or right above it, or else the first of all.
-    /// None says that the id is below the interval, or above it and apart from it.
+    /// The interval with one more id, if the id is in it or right above it, or if the interval has
+    /// none. None means that the id is below the interval, or above it and not next to it.
     pub(crate) fn grown(self, id: u32) -> Option<Interval>
         ensures grown { IfSome result (λ grown. HasOneMore self id grown) }
         ensures there { IfSome result (λ grown. grown.first ≤ grown.last) }

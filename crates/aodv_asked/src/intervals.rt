@@ -10,12 +10,13 @@ use mesh_base::NoMemory;
 use std::alloc::Global;
 use std::marker::Model;
 
-/// Where the intervals of a list stand. One takes no memory, nor does room for it.
+/// How the intervals of a list are kept. One takes no memory, nor does room for it.
 #[derive(Drop)]
 enum Storage {
     Empty,
     One(Interval),
-    // These are boxed, so that a list takes 16 bytes. From `CHUNK` intervals on there are chunks.
+    // These are boxed, so that a list takes 16 bytes. A full list of `CHUNK` intervals or more goes
+    // into chunks when room is made for another.
     Few(Box<Vec<Interval>>),
     Many(Box<Chunks>),
 }
@@ -107,7 +108,7 @@ impl Intervals {
         }
     }
 
-    /// The interval behind the one at a spot.
+    /// The interval after the one at a spot.
     pub(crate) fn behind(&self, spot: Spot) -> Option<Spot>
         requires { IsThere self.now spot }
         ensures { IsBehindSpot self.now spot result }
@@ -150,8 +151,8 @@ impl Intervals {
         }
     }
 
-    /// Makes room for one more interval. It is a call of its own, since its callers nearly always
-    /// have room, and stay short so.
+    /// Makes room for one more interval. It isn't inlined: callers nearly always have room, and
+    /// stay short this way.
     #[inline(never)]
     pub(crate) fn make_room(&mut self, alloc: Global) -> Result<(), NoMemory>
         ensures items { self.new.items ≡ self.old.items }
@@ -182,7 +183,7 @@ impl Intervals {
         Ok(())
     }
 
-    /// Puts an interval before the one at a spot.
+    /// Inserts an interval before the one at a spot.
     pub(crate) fn insert(&mut self, spot: Spot, v: Interval)
         requires spot { IsThere self.old spot }
         requires room { 0 < self.old.room }
@@ -199,7 +200,7 @@ impl Intervals {
         }
     }
 
-    /// Puts an interval behind the others.
+    /// Adds an interval after the others.
     pub(crate) fn push(&mut self, v: Interval)
         requires { 0 < self.old.room }
         ensures items { self.new.items ≡ self.old.items ++ v ∷ [] }
@@ -213,7 +214,7 @@ impl Intervals {
         }
     }
 
-    /// Puts an interval at a spot, where another was.
+    /// Replaces the interval at a spot.
     pub(crate) fn set(&mut self, spot: Spot, v: Interval)
         requires { IsThere self.old spot }
         ensures items { self.new.items ≡ slice_set self.old.items (position_of self.old spot) v }
@@ -228,7 +229,7 @@ impl Intervals {
         }
     }
 
-    /// Takes the interval at a spot away.
+    /// Removes the interval at a spot.
     pub(crate) fn remove(&mut self, spot: Spot)
         requires { IsThere self.old spot }
         ensures items { self.new.items ≡ remove self.old.items (position_of self.old spot) }
@@ -244,7 +245,7 @@ impl Intervals {
         }
     }
 
-    /// How many ids there are. It looks at each interval once, and at no id.
+    /// How many ids there are. It looks at each interval once, but not at each id.
     pub(crate) fn count(&self) -> u64
         requires { AreApart 0 self.now.items }
         ensures { result ≡ total self.now.items }

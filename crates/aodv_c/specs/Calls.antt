@@ -1,5 +1,5 @@
--- What a call answers of a handle that holds a router, and what the handle then holds. Each is what
--- the router answers, as a number, and with its outcome in the caller's memory.
+-- What a call answers if the handle holds a router, and what the handle then holds. Each answer is
+-- the router's, as a number, with its outcome in the caller's memory.
 use Rattle.std.specs.Prelude.{◌≡◌, ℕ, Bool, Option, IfOk, Result, List, length}
 use Rattle.std.specs.FinMap as maps
 use Rattle.std.specs.FinSet as sets
@@ -35,7 +35,7 @@ pub record IsGiveCall (old : Station) (dest : ℕ) (body : List ℕ) (code : ℕ
   pub given : IsGivenFor old dest body answer new
   pub told : code ≡ code_of give_code answer
 
--- `before` and `after` are what the caller's outcome was and is
+-- `before` and `after` are the caller's outcome before and after the call
 pub record IsTurnCall (old : Station) (near : List ℕ) (before : Outcome) (code : ℕ) (new : Station)
     (after : Outcome) : Type 0 where
   pub answer : Result told.Outcome TurnError
@@ -77,7 +77,7 @@ pub record IsWaitingCall (s : Station) (dest before code after : ℕ) : Type 0 w
   pub told : code ≡ code_of stranger_code answer
   pub written : IsWritten answer before after
 
--- a look at whether an originator's request of this id was seen
+-- a look at whether an originator's request with this id was seen
 pub record IsSeenCall (s : Station) (originator id : ℕ) (before : Bool) (code : ℕ) (after : Bool)
     : Type 0 where
   pub answer : Result Bool Stranger

@@ -1,4 +1,4 @@
--- The numbers that calls answer, and those that stand in an outcome.
+-- The numbers that calls answer, and those in an outcome.
 use Rattle.std.specs.Prelude.{◌==◌, ℕ, if◌then◌else◌, Option, Some, None, Result, Ok, Err}
 use Rattle.mesh_base.specs.declared.events.Counter.{Counter}
 use Rattle.mesh_base.specs.declared.events.Counter.TheVariants as counters
@@ -75,7 +75,7 @@ ask_code asks.NoMemory = NO_MEMORY
 abbrev pub stranger_code : Stranger → ℕ
 stranger_code _ = STRANGER
 
--- the same where an entry was looked for
+-- what a call that looks for an entry answers
 abbrev pub entry_code : {A : Type 0} → Result (Option A) Stranger → ℕ
 entry_code (Ok (Some row)) = DONE
 entry_code (Ok None) = NO_ENTRY
@@ -95,14 +95,14 @@ took_code told.Own = TOOK_OWN
 took_code (told.Stored dest) = TOOK_STORED
 took_code (told.Heard from kind) = kind_code kind
 
--- the neighbour that a packet came from; 0 where none was taken
+-- the neighbour that a packet came from; 0 if none was taken
 abbrev pub from_of : Taken → ℕ
 from_of told.Nothing = 0
 from_of told.Own = 0
 from_of (told.Stored dest) = 0
 from_of (told.Heard from kind) = from
 
--- the destination of a datum that now waits; 0 where none does
+-- the destination of a datum that now waits; 0 if none does
 abbrev pub dest_of : Taken → ℕ
 dest_of told.Nothing = 0
 dest_of told.Own = 0
@@ -117,7 +117,7 @@ cast_code castings.All = CAST_ALL
 
 -- ---- what a caller names
 
--- the variant of a number
+-- the variant with this number, if there is one
 abbrev pub variant_of : ℕ → Option Variant
 variant_of n =
     if n == 0 then Some variants.Base

@@ -1,4 +1,4 @@
--- What a call leaves in memory of the caller's own.
+-- What a call leaves in the caller's own memory.
 use Rattle.std.specs.Prelude.{◌≡◌, ℕ, Bool, true, false, Option, Some, None, Result, Ok, Err, is_some, unwrap_or, List, take}
 use Rattle.aodv_model.specs.declared.entry.Flag.{Flag}
 use Rattle.aodv_model.specs.declared.entry.Flag.TheVariants as flags
@@ -12,7 +12,8 @@ use Rattle.aodv_c.specs.declared.outcome.Row.{Row}
 use Rattle.aodv_c.specs.declared.outcome.Addrs.{Addrs}
 use Rattle.aodv_c.specs.Codes.{took_code, from_of, dest_of, cast_code}
 
--- the outcome of the router, field by field. Lists are their first elements, as many as there are
+-- the outcome of the router, field by field. Of an array, as many of the first elements count as
+-- its length says
 pub record LaysOut (o : told.Outcome) (out : Outcome) : Type 0 where
   pub took : out.took ≡ took_code o.took
   pub from : out.from ≡ from_of o.took
@@ -26,12 +27,12 @@ pub record LaysOut (o : told.Outcome) (out : Outcome) : Type 0 where
   pub packet : take out.packet_len out.packet ≡ (o.packet).items
   pub body : take out.body_len out.body ≡ (o.body).items
 
--- where the router has an outcome it is laid out; else the caller's is as it was
+-- if the router has an outcome, it is laid out; otherwise the caller's is as it was
 abbrev pub IsLaid : {E : Type 0} → Result told.Outcome E → Outcome → Outcome → Type 0
 IsLaid (Ok o) old new = LaysOut o new
 IsLaid (Err e) old new = new ≡ old
 
--- a list of addresses
+-- the list has these addresses
 pub record LaysAddrs (rising : List ℕ) (list : Addrs) : Type 0 where
   pub addrs : take list.len list.addrs ≡ rising
 
@@ -52,13 +53,13 @@ pub record LaysRow (r : rows.Row) (row : Row) : Type 0 where
   pub next : row.next ≡ r.next
   pub pre : take row.pre_len row.pre ≡ (r.pre).items
 
--- where there is an entry it is laid out; else the caller's row is as it was
+-- if there is an entry, it is laid out; otherwise the caller's row is as it was
 abbrev pub IsRowLaid : Result (Option rows.Row) Stranger → Row → Row → Type 0
 IsRowLaid (Ok (Some r)) old new = LaysRow r new
 IsRowLaid (Ok None) old new = new ≡ old
 IsRowLaid (Err e) old new = new ≡ old
 
--- where there is a value it is written; else the caller's is as it was
+-- if there is a value, it is written; otherwise the caller's is as it was
 abbrev pub IsWritten : {A : Type 0} → Result A Stranger → A → A → Type 0
 IsWritten (Ok x) old new = new ≡ x
 IsWritten (Err e) old new = new ≡ old

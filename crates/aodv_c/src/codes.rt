@@ -1,16 +1,16 @@
-//! The numbers that calls answer, and those that stand in an outcome.
+//! The numbers that calls answer, and those in an outcome.
 ghost use Rattle.std.specs.Prelude.{◌≡◌};
 ghost use Rattle.aodv_c.specs.Codes.{full_code, new_code, hear_code, give_code, turn_code, send_code, ask_code, code_of, took_code, from_of, dest_of, cast_code, variant_of};
 
 use aodv_router::{AskError, Casting, GiveError, HearError, NewError, SendError, Taken, TurnError};
 use mesh_base::{Counter, Kind, Variant};
 
-/// The number of this interface: it changes where a call, a struct or a number does.
+/// The version of this interface: it changes whenever a call, a struct or a number does.
 pub const VERSION: u32 = 1;
 
 // ---- what a call answers
 
-/// It is done.
+/// The call is done.
 pub const DONE: u32 = 0;
 
 /// The inbox is empty, or there is nothing to send or to ask for.
@@ -22,13 +22,13 @@ pub const STRANGER: u32 = 2;
 /// The address is the router's own.
 pub const OWN: u32 = 3;
 
-/// The packet can't be read. It is taken.
+/// The packet can't be read. It is taken from the inbox.
 pub const UNREADABLE: u32 = 4;
 
-/// The packet names an address that the mesh doesn't have. It is taken.
+/// The packet names an address that the mesh doesn't have. It is taken from the inbox.
 pub const NAMES_STRANGER: u32 = 5;
 
-/// Memory was asked for and not found.
+/// There isn't enough memory.
 pub const NO_MEMORY: u32 = 6;
 
 /// The handle holds nothing.
@@ -43,7 +43,7 @@ pub const LENGTH: u32 = 9;
 /// The first sequence number is 0.
 pub const ZERO_NUMBER: u32 = 10;
 
-/// There is no variant of this number.
+/// There is no variant with this number.
 pub const NO_VARIANT: u32 = 11;
 
 /// An address is there twice.
@@ -69,7 +69,7 @@ pub const NO_ENTRY: u32 = 18;
 
 // ---- what was taken
 
-/// Nothing: a datum that waited was sent, or a request made.
+/// Nothing: the outcome is that of a send or a request.
 pub const TOOK_NOTHING: u32 = 0;
 
 /// A datum for the router itself.
@@ -232,7 +232,7 @@ pub(crate) fn cast_code(cast: Casting) -> u32
 
 // ---- what a caller names
 
-/// The variant of a number.
+/// The variant with this number, if there is one.
 pub(crate) fn variant_of(number: u32) -> Option<Variant>
     ensures { result ≡ variant_of number }
 {

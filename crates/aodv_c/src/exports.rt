@@ -1,6 +1,7 @@
-//! The exported functions that make a router, and make it act. Where a handle holds nothing, each
-//! but `aodv_new` and `aodv_free` says so and changes nothing; a refusal leaves the router as it
-//! was, but that a turn takes a packet which can't be read, or which names a stranger.
+//! The exported functions that make a router, and make it act. If the handle holds nothing, each of
+//! them except `aodv_new` and `aodv_free` says so and changes nothing. A refusal leaves the router
+//! as it was, except that a turn still takes from the inbox a packet that can't be read or that
+//! names a stranger.
 ghost use Rattle.std.specs.Prelude.{◌≡◌, ◌≢◌, ◌↔◌, [], Ok, Err, Some, None, IsOk, true, false};
 ghost use Rattle.mesh_base.specs.Meshes.{index_of};
 ghost use Rattle.mesh_base.specs.declared.events.Variant.{Variant as a_variant};
@@ -22,7 +23,7 @@ use mesh_base::Variant;
 use std::alloc::Global;
 use std::mem::replace;
 
-/// The number of this interface.
+/// The version of this interface.
 #[unsafe(no_mangle)]
 pub extern "C" fn aodv_version() -> u32
     ensures { result ≡ VERSION }
@@ -31,10 +32,11 @@ pub extern "C" fn aodv_version() -> u32
 }
 
 /// Makes a router in a handle that holds nothing. The mesh has exactly these addresses, `me` is the
-/// router's own, and `first` its first sequence number. Variants: 0 the protocol as AWN has it,
-/// 1 requests told apart by number, 2 replies passed on by any valid route, 3 broadcast errors. A
-/// refusal is the first that applies of HOLDS_ONE, NO_VARIANT, ZERO_NUMBER, then of TWICE and
-/// TOO_MANY at the first address that can't join those before it, then of NOT_THERE.
+/// router's own, and `first` its first sequence number. Variant 0 is the protocol as AWN has it; in
+/// 1 requests are told apart by their originator's number; in 2 any node with a valid route passes
+/// a reply on; in 3 errors are broadcast. A call is refused for the first that applies of
+/// HOLDS_ONE, NO_VARIANT and ZERO_NUMBER, then of TWICE and TOO_MANY at the first address that
+/// can't join those before it, then of NOT_THERE.
 #[unsafe(no_mangle)]
 pub extern "C" fn aodv_new(
     alloc: Global,
@@ -75,7 +77,8 @@ pub extern "C" fn aodv_new(
     }
 }
 
-/// Frees what the handle holds, which then holds nothing. One that holds nothing stays so.
+/// Frees what the handle holds; the handle then holds nothing. A handle that holds nothing stays
+/// so.
 #[unsafe(no_mangle)]
 pub extern "C" fn aodv_free(alloc: Global, h: &mut Handle)
     ensures { h.new.live ≡ false }
@@ -117,8 +120,8 @@ pub extern "C" fn aodv_give(alloc: Global, h: &mut Handle, dest: u32, body: &[u8
     give_code(answer)
 }
 
-/// Takes the front item of the inbox, and does what AODV does with it, where these addresses are
-/// near: a unicast to another fails.
+/// Takes the front item of the inbox, and does what AODV does with it. `near` has the addresses in
+/// range now: a unicast to any other fails.
 #[unsafe(no_mangle)]
 pub extern "C" fn aodv_turn(h: &mut Handle, near: &[u32], out: &mut Outcome) -> u32
     ensures live { h.new.live ≡ h.old.live }
@@ -153,7 +156,7 @@ pub extern "C" fn aodv_send(h: &mut Handle, near: &[u32], dest: u32, out: &mut O
 }
 
 /// Asks all neighbours for a route to an address, if data wait for it, there is no valid route, and
-/// none was asked for.
+/// a request is still to be made.
 #[unsafe(no_mangle)]
 pub extern "C" fn aodv_ask(h: &mut Handle, dest: u32, out: &mut Outcome) -> u32
     ensures live { h.new.live ≡ h.old.live }

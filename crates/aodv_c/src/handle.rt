@@ -9,7 +9,7 @@ use std::alloc::Global;
 use std::marker::Model;
 use std::ptr::null_mut;
 
-/// A router on the heap, or none. The caller makes a handle of zeros, and writes to it no more.
+/// A router on the heap, or none. The caller makes a handle of zeros, and never writes to it again.
 #[repr(C)]
 #[derive(Drop)]
 pub struct Handle {
@@ -51,7 +51,7 @@ impl Handle {
         }
     }
 
-    /// A handle that holds nothing more: what it held.
+    /// What the handle held. The handle is used up.
     pub(crate) fn into_loose(self, alloc: Global) -> Loose<Router, Global>
         requires { self.live ≡ true }
         ensures { result.value ≡ self.value }
@@ -70,7 +70,7 @@ impl Handle {
         self.live
     }
 
-    /// What the handle holds, lent.
+    /// Lends what the handle holds.
     pub fn open(&mut self) -> &mut Router
         requires { self.old.live ≡ true }
         ensures* writes_back { sem 𝓛 (LendsRouter self.entry result) }
@@ -80,7 +80,7 @@ impl Handle {
     }
 }
 
-// A handle may go to another thread: this call asks for the proof.
+// A handle may go to another thread: the call below needs the proof of that.
 fn moved<T: Send>(x: T) -> T {
     x
 }

@@ -1,11 +1,11 @@
-//! A box as its pointer.
+//! A box as its pointer and its allocator.
 ghost use Rattle.std.specs.Prelude.{◌≡◌};
 ghost use Rattle.std.specs.Box.Ownership.{box_owns};
 
 use std::alloc::Allocator;
 use std::marker::Model;
 
-/// A box in two parts: where its value is, and the allocator that it goes back to.
+/// A box in two parts: where its value is, and the allocator that its memory goes back to.
 pub(crate) struct Loose<T, A: Allocator> {
     pub(crate) at: *mut T,
     pub(crate) alloc: A,

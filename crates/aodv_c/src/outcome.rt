@@ -1,5 +1,5 @@
-//! What a call leaves in memory of the caller's own. A list there is an array and how many of its
-//! first elements count; those behind are 0.
+//! What a call leaves in the caller's own memory. A list there is an array and how many of its
+//! first elements count; the others are 0.
 ghost use Rattle.std.specs.Prelude.{◌≡◌, length, take, unwrap_or};
 ghost use Rattle.aodv_c.specs.Codes.{code_of, turn_code, send_code, ask_code, entry_code};
 ghost use Rattle.aodv_c.specs.Laid.{LaysOut, IsLaid, LaysAddrs, LaysRow, IsRowLaid};
@@ -12,7 +12,7 @@ use aodv_model::{Flag, Known};
 use aodv_router::{AskError, Body, SendError, Stranger, TurnError};
 use mesh_base::{LONGEST_DATUM, LONGEST_PACKET, MOST_NODES, Packet};
 
-/// What a turn, a send or a request has done. The packet is to be cast.
+/// What a turn, a send or a request has done. The packet is to be cast as it is.
 #[repr(C)]
 #[derive(Drop)]
 pub struct Outcome {
@@ -24,9 +24,9 @@ pub struct Outcome {
     pub dest: u32,
     /// The datum in `body` has come to its destination, which is this router.
     pub delivered: bool,
-    /// A datum was dropped. Where a turn took it, it is the one in `body`.
+    /// A datum was dropped. If a turn took it, it is the one in `body`.
     pub lost: bool,
-    /// A unicast to `broke` would not have reached it, since it isn't near.
+    /// A unicast to `broke` couldn't reach it, since it isn't near.
     pub broken: bool,
     /// The next hop that wasn't near, or 0.
     pub broke: u32,
@@ -34,7 +34,7 @@ pub struct Outcome {
     pub cast: u32,
     /// How many neighbours are named.
     pub to_len: u32,
-    /// The neighbours that the packet goes to, where they are named.
+    /// The neighbours to which the packet goes, if they are named.
     pub to: [u32; MOST_NODES],
     /// How many bytes the packet has.
     pub packet_len: u32,
@@ -153,7 +153,7 @@ impl Outcome {
     }
 }
 
-/// Lays out what a turn answers, and says its number.
+/// Lays out the outcome of a turn, if there is one, and returns the number of the answer.
 pub(crate) fn put_turn(answer: &Result<aodv_router::Outcome, TurnError>, out: &mut Outcome) -> u32
     ensures told { result ≡ code_of turn_code answer.now }
     ensures laid { IsLaid answer.now out.old out.new }
@@ -167,7 +167,7 @@ pub(crate) fn put_turn(answer: &Result<aodv_router::Outcome, TurnError>, out: &m
     }
 }
 
-/// The same of a send.
+/// Lays out the outcome of a send, if there is one, and returns the number of the answer.
 pub(crate) fn put_send(answer: &Result<aodv_router::Outcome, SendError>, out: &mut Outcome) -> u32
     ensures told { result ≡ code_of send_code answer.now }
     ensures laid { IsLaid answer.now out.old out.new }
@@ -181,7 +181,7 @@ pub(crate) fn put_send(answer: &Result<aodv_router::Outcome, SendError>, out: &m
     }
 }
 
-/// The same of a request.
+/// Lays out the outcome of a request, if there is one, and returns the number of the answer.
 pub(crate) fn put_ask(answer: &Result<aodv_router::Outcome, AskError>, out: &mut Outcome) -> u32
     ensures told { result ≡ code_of ask_code answer.now }
     ensures laid { IsLaid answer.now out.old out.new }
@@ -214,7 +214,7 @@ impl Row {
     }
 }
 
-/// Lays out an entry, if there is one, and says the number of the answer.
+/// Lays out an entry, if there is one, and returns the number of the answer.
 pub(crate) fn put_row(answer: &Result<Option<aodv_router::Row>, Stranger>, row: &mut Row) -> u32
     ensures told { result ≡ entry_code answer.now }
     ensures laid { IsRowLaid answer.now row.old row.new }

@@ -1,5 +1,5 @@
-//! The exported functions that read a router. None of them changes it: `DONE` says that the value
-//! was written, and after every other number it is as it was.
+//! The exported functions that read a router. None of them changes it. `DONE` means that the value
+//! was written; after any other answer the value is as it was.
 ghost use Rattle.std.specs.Prelude.{◌≡◌, length, true, false};
 ghost use Rattle.aodv_model.specs.Handlers.{may_send, may_ask};
 ghost use Rattle.aodv_node.specs.Seen.{IsSoundNode};
@@ -11,7 +11,7 @@ use crate::codes::{DONE, HOLDS_NOTHING, STRANGER};
 use crate::handle::Handle;
 use crate::outcome::{Addrs, Row, put_row};
 
-/// How many items wait in the inbox. While there is one a turn may be done.
+/// How many items wait in the inbox. While there is one, a turn may be taken.
 #[unsafe(no_mangle)]
 pub extern "C" fn aodv_items(h: &mut Handle, count: &mut usize) -> u32
     ensures live { h.new.live ≡ h.old.live }
@@ -62,7 +62,7 @@ pub extern "C" fn aodv_askable(h: &mut Handle, list: &mut Addrs) -> u32
     DONE
 }
 
-/// The router's own sequence number: one that begins again has to begin above it.
+/// The router's own sequence number. A router that restarts has to begin above it.
 #[unsafe(no_mangle)]
 pub extern "C" fn aodv_number(h: &mut Handle, number: &mut u32) -> u32
     ensures live { h.new.live ≡ h.old.live }
@@ -115,8 +115,8 @@ pub extern "C" fn aodv_waiting(h: &mut Handle, dest: u32, count: &mut usize) -> 
     }
 }
 
-/// Whether an originator's request of this id was seen. In variant 1 requests are told apart by
-/// their originator's number, which stands here for the id.
+/// Whether an originator's request with this id was seen. In variant 1 requests are told apart by
+/// their originator's number, which is given here in place of the id.
 #[unsafe(no_mangle)]
 pub extern "C" fn aodv_seen(h: &mut Handle, originator: u32, id: u32, seen: &mut bool) -> u32
     ensures live { h.new.live ≡ h.old.live }

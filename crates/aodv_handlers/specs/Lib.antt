@@ -1,7 +1,6 @@
--- Read in this order. What a node does is defined by aodv_model (its specs/Handlers and
--- specs/Fullness).
--- Shown: the state of the model that a core of the code shows, and what every handler asks of it
--- and keeps.
+-- Read in this order. aodv_model defines what a node does (its specs/Handlers and specs/Fullness).
+-- Shown: the model's state for a core of the code, and what every handler requires of a core and
+-- preserves.
 pub mod Shown
 -- Made: what it means that a handler did what the model does, or refused.
 pub mod Made

@@ -15,7 +15,7 @@ use Rattle.aodv_meaning.specs.Effects.{effect_of}
 use Rattle.aodv_handlers.specs.declared.cores.Core as code
 use Rattle.aodv_handlers.specs.Shown.{core_of}
 
--- no counter stood in the way, and the effect, the new core and the packet are those of the model's
+-- no counter was full, and the effect, the new core and the packet are those of the model's
 -- reaction
 pub record IsMade (mesh : Nodes) (full : Option Counter) (reaction : Reaction)
     (effect : effects.Effect) (new : Core) (out : List ℕ) : Type 0 where
@@ -29,8 +29,8 @@ pub record IsFull (full : Option Counter) (old : Core) (field : Counter) (new : 
   pub overfull : full ≡ Some field
   pub same : new ≡ old
 
--- what was done in the core `old`, from the answer, the core after it and the packet that is cast:
--- this reaction, or nothing, since the reaction would overfill the field `full`
+-- what was done in the core `old`, by the answer, the core after it and the packet that is cast:
+-- this reaction; or nothing, since the reaction would overfill the field `full`
 abbrev pub IsReaction : Nodes → Option Counter → Core → Reaction → Result effects.Effect Counter
     → Core
     → List ℕ → Type 0
@@ -41,19 +41,19 @@ IsReaction mesh full old reaction (Err field) new out = IsFull full old field ne
 abbrev pub only_cast : cast.Cast → effects.Effect
 only_cast c = record { deliver = false; lost = false; broken = None; cast = c }
 
--- the same answer, with the cast as an effect
+-- the answer, with the cast as an effect
 abbrev pub as_effect : Result cast.Cast Counter → Result effects.Effect Counter
 as_effect (Ok c) = Ok (only_cast c)
 as_effect (Err field) = Err field
 
--- the field that the break of a link would overfill, where this table is as the break finds it, and
--- this link broke, if one did
+-- the field that the break of a link would overfill: the table is the one before the break, and the
+-- option has the link that broke, if one did
 abbrev pub number_full : Table → Option ℕ → Option Counter
 number_full rt broken = if is_number_full rt broken then Some Number else None
 
--- ---- the same of cores of the code: `entries` says what the entries of their tables are
+-- ---- what cores of the code do: `entries` gives the entries of their tables
 
--- the core `old` reacts so: a number may be full, and nothing else
+-- the core `old` reacts so, unless a number is full
 abbrev pub Reacts : {T : Type 0} → (T → Table) → Nodes → (Core → Reaction)
     → code.Core T → Result effects.Effect Counter → code.Core T → List ℕ → Type 0
 Reacts entries mesh reaction old answer new out =

@@ -8,15 +8,15 @@ use Rattle.aodv_model.specs.Handlers.{Reaction, is_empty, is_error, with_precs, 
 use Rattle.aodv_handlers.specs.declared.messages.Reply.{Reply}
 use Rattle.aodv_handlers.specs.Shown.{reply_of}
 
--- a route error tells of d: always in the variant `Error`, and else where d has precursors
+-- a route error names d: always in the variant `Error`, and otherwise if d has precursors
 abbrev pub tells : Variant → Table → ℕ → Bool
 tells v rt d = is_error v || not (is_empty (precs rt d))
 
--- the destinations of a route error, of these
+-- those of these destinations that a route error names
 abbrev pub named_dests : Variant → Table → Dests → Dests
 named_dests v rt dests = if is_error v then dests else with_precs rt dests
 
--- the routes by `from` are gone that a route error from there names, with these numbers
+-- the routes for which a route error from `from` is accepted become invalid, with these numbers
 abbrev pub gone_by : Core → ℕ → Dests → Reaction
 gone_by core from dests = retract core (accepted_unreachable core.rt from dests)
 
@@ -32,12 +32,12 @@ pass_on core range m =
     let rt = join_reply_precursors core.rt m.dip m.oip in
     unicast (record core { rt = rt }) (Rrep m) (nhop rt m.oip) range
 
--- the reply goes on as it stands here, if any does
+-- this reply goes on, if there is one
 abbrev pub passing : Core → NodeIds → Option Reply → Reaction
 passing core range None = only core
 passing core range (Some m) = pass_on core range (reply_of m)
 
--- the reply r is for the nodes that m is for, and its number isn't 0
+-- the reply r names the nodes that m names, and its number isn't 0
 pub record IsNumberedAs (m r : Reply) : Type 0 where
   pub dip : r.dip ≡ m.dip
   pub oip : r.oip ≡ m.oip

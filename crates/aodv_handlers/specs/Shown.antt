@@ -1,4 +1,4 @@
--- The state of the model that a core shows, and what every handler asks of a core and keeps.
+-- The model's state for a core, and what every handler requires of a core and preserves.
 use Rattle.std.specs.Prelude.{◌≡◌, ◌<◌, ℕ, length}
 use Rattle.aodv_model.specs.Tables.{Table}
 use Rattle.aodv_model.specs.Cores.{Core, RouteRequest, RouteReply, Message, Pkt}
@@ -9,7 +9,7 @@ use Rattle.aodv_handlers.specs.declared.messages.Request.{Request}
 use Rattle.aodv_handlers.specs.declared.messages.Reply.{Reply}
 use Rattle.aodv_handlers.specs.declared.messages.Datum.{Datum}
 
--- the model's core. `entries` says what the table's entries are
+-- the model's core for a core of the code. `entries` gives the table's entries
 abbrev pub core_of : {T : Type 0} → (T → Table) → code.Core T → Core
 core_of entries c = record {
   ip = c.me;
@@ -20,8 +20,8 @@ core_of entries c = record {
   store = (c.waiting).store;
 }
 
--- the core is that of a node of a mesh of this size: its parts are made for that size, and what it
--- shows is sound
+-- the core is that of a node of a mesh of this size: its parts are made for that size, and the
+-- model's core for it is sound
 pub record IsInOrder {T : Type 0} (nodes : T → ℕ) (entries : T
     → Table) (size : ℕ) (c : code.Core T) : Type 0 where
   pub table : nodes c.table ≡ size

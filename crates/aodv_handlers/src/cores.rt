@@ -3,7 +3,7 @@ use aodv_asked::Asked;
 use aodv_waiting::Waiting;
 use mesh_base::Variant;
 
-/// The state of a node, but for its inbox.
+/// The state of a node, except its inbox.
 #[derive(Drop)]
 pub struct Core<T> {
     /// The node's own index in the mesh.

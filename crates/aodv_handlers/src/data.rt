@@ -24,8 +24,8 @@ use aodv_table::Table;
 use aodv_wire::{DataView, write_rerr};
 use mesh_base::{Bytes, Cast, Counter, Effect, Mesh, NodeSet, Packet, Variant};
 
-/// A datum given to the node. It comes back where it is for the node itself, which delivers it;
-/// else it waits.
+/// Takes a datum given to the node. If it is for the node itself, it is returned to be delivered;
+/// otherwise it waits.
 #[tactic(auto, unfolding(aodv_model::specs::Handlers::on_new))]
 pub fn new_packet<T: Table>(core: &mut Core<T>, dest: usize, body: Bytes) -> Option<Bytes>
     requires datum { IsDatum body }
@@ -47,16 +47,16 @@ pub fn new_packet<T: Table>(core: &mut Core<T>, dest: usize, body: Bytes) -> Opt
     None
 }
 
-// Whether data that can't go on by this entry make an error: where it is invalid, and there is
-// somebody to tell.
+// Whether data that can't go on by this entry make an error: they do if the entry is invalid and
+// there is somebody to tell.
 fn makes_an_error(variant: Variant, e: &Entry) -> bool
     ensures { result ≡ (not (is_val e.now.flag) && (is_error variant || not (no_node e.now.pre))) }
 {
     e.flag == Flag::Inv && (is_broadcast(variant) || !is_empty(&e.pre))
 }
 
-// The error for data to d that can't go on, where its entry is invalid: to all nodes in range, or
-// to d's precursors.
+// The error for data to d that can't go on, if d's entry is invalid: to all nodes in range, or to
+// d's precursors.
 #[tactic(auto, unfolding(aodv_model::specs::Handlers::data_error))]
 fn data_error<T: Table>(core: &Core<T>, mesh: &Mesh, d: usize, out: &mut Packet) -> Cast
     requires nodes { T.nodes core.now.table ≡ length mesh.now }
@@ -81,8 +81,8 @@ fn data_error<T: Table>(core: &Core<T>, mesh: &Mesh, d: usize, out: &mut Packet)
     }
 }
 
-/// A datum on its way: delivered where it is for this node, sent on where there is a valid route,
-/// and else lost.
+/// A datum on its way: delivered if it is for this node, sent on if there is a valid route, and
+/// otherwise lost. It is lost too if the next hop is out of range.
 #[tactic(auto, unfolding(aodv_model::specs::Handlers::on_pkt))]
 #[inline(always)]
 pub fn take_datum<T: Table>(
@@ -125,7 +125,7 @@ pub fn take_datum<T: Table>(
     Ok(effect)
 }
 
-/// The same of a data packet.
+/// Does what `take_datum` does, with a data packet that names nodes by their addresses.
 pub fn on_data<T: Table>(
     core: &mut Core<T>,
     mesh: &Mesh,

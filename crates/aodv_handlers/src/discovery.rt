@@ -34,7 +34,7 @@ pub fn may_ask<T: Table>(core: &Core<T>, dest: usize) -> bool
     core.waiting.has(dest) && core.waiting.needs_request(dest) && !has_route(&core.table, dest)
 }
 
-/// Sends the first datum that waits for `dest`. It stays where the next hop isn't in range.
+/// Sends the first datum that waits for `dest`. It stays if the next hop isn't in range.
 #[tactic(auto, unfolding(aodv_model::specs::Handlers::send, aodv_model::specs::Handlers::unicast))]
 pub fn send_stored<T: Table>(
     core: &mut Core<T>,
@@ -74,7 +74,7 @@ fn last_known<T: Table>(table: &T, d: usize) -> (u32, bool)
     }
 }
 
-// The id of the node's next request, whose number is sn. None says that there is none left.
+// The id of the node's next request, whose number is sn. None means that no id is left.
 fn request_id<T: Table>(core: &Core<T>, sn: u32) -> Option<u32>
     requires within { core.now.me < length core.now.asked.rooms }
     requires raised { sn ≡ raised core.now.sn }
@@ -108,7 +108,7 @@ pub fn next_request<T: Table>(core: &Core<T>) -> Result<(u32, u32), Counter>
 }
 
 /// Asks for a route to `dest`: the node raises its own number, and broadcasts a request with it. No
-/// room for the request is needed where its id or one next to it was seen.
+/// room for the request is needed if its id or one next to it was seen.
 #[tactic(auto, unfolding(aodv_model::specs::Handlers::ask))]
 pub fn start_request<T: Table>(
     core: &mut Core<T>,

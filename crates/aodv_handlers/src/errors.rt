@@ -1,4 +1,4 @@
-//! Route errors, and links that are broken (RFC 3561, section 6.11).
+//! Route errors, and broken links (RFC 3561, section 6.11).
 ghost use Rattle.std.specs.Prelude.{◌≡◌, ◌<◌, ◌≤◌, length};
 ghost use Rattle.std.specs.FinMap as maps;
 ghost use Rattle.aodv_model.specs.Tables.{precs};
@@ -49,14 +49,14 @@ fn all_precursors<T: Table>(table: &T, dests: &Dests) -> NodeSet
     all
 }
 
-/// Whether route errors are broadcast, and tell of each destination.
+/// Whether route errors are broadcast, and name every destination.
 pub(crate) fn is_broadcast(variant: Variant) -> bool
     ensures { result ≡ is_error variant }
 {
     matches!(variant, Variant::Error)
 }
 
-// Whether a route error tells of d, if its route is gone.
+// Whether a route error names d, if d's route becomes invalid.
 fn is_told<T: Table>(variant: Variant, table: &T, d: usize) -> bool
     requires { d < T.nodes table.now }
     ensures { result ≡ tells variant (T.entries table.now) d }
@@ -64,7 +64,7 @@ fn is_told<T: Table>(variant: Variant, table: &T, d: usize) -> bool
     is_broadcast(variant) || !is_empty(&precursors(table, d))
 }
 
-// Writes the route error of these destinations. It tells of one or more.
+// Writes the route error of these destinations. It names at least one of them.
 fn write_error<T: Table>(variant: Variant, table: &T, mesh: &Mesh, dests: &Dests, out: &mut Packet)
     requires nodes { T.nodes table.now ≡ length mesh.now }
     requires below { AreDestsBelow (length mesh.now) dests.now }
@@ -72,7 +72,8 @@ fn write_error<T: Table>(variant: Variant, table: &T, mesh: &Mesh, dests: &Dests
     ensures { IsSent mesh.now out.new.items
         (Rerr (named_dests variant (T.entries table.now) dests.now)) }
 {
-    // It says that the addresses of a mesh rise, so pairs by rising node have rising addresses.
+    // This tells the prover that the addresses of a mesh rise, so pairs in the order of their nodes
+    // are in the order of their addresses.
     let _rising = mesh.len();
     let mut pairs: ArrayVec<(Addr, u32), MOST_NODES> = ArrayVec::new();
     for k in 0..dests.len() {
@@ -116,8 +117,8 @@ fn error_cast<T: Table>(
     Cast::Many(to)
 }
 
-/// The routes to these destinations are gone: their entries become invalid with the numbers stated,
-/// data that wait for them need a request, and a route error tells of them.
+/// Makes the routes to these destinations invalid: their entries get the numbers stated, data that
+/// wait for them need a request, and a route error is written if there is somebody to tell.
 #[tactic(auto, unfolding(aodv_model::specs::Handlers::retract))]
 pub(crate) fn retract<T: Table>(
     core: &mut Core<T>,
@@ -144,8 +145,9 @@ pub(crate) fn retract<T: Table>(
     cast
 }
 
-/// The link to `next` is broken: all valid routes by it are gone, each with its number raised, and
-/// a route error tells of them. Where a number can't be raised, nothing changes.
+/// The link to `next` is broken: all valid routes by it become invalid, each with its number
+/// raised, and a route error is written if there is somebody to tell. If a number can't be raised,
+/// nothing changes.
 #[tactic(auto, unfolding(aodv_model::specs::Handlers::link_broken))]
 pub fn link_broken<T: Table>(
     core: &mut Core<T>,

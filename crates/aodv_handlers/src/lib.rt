@@ -1,6 +1,7 @@
 //! What one AODV node does with each message, with each datum given to it, and of its own accord
 //! (AWN, arXiv 1312.7645, section 6; RFC 3561, section 6). A handler changes the node's core, and
-//! leaves in `out` the packet that is cast; where a counter would overflow it changes nothing.
+//! leaves in `out` the packet that is cast; if a counter would overflow, it leaves the core as it
+//! was.
 #![tactic(auto)]
 
 mod cores;

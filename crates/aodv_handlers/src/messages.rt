@@ -7,7 +7,7 @@ pub struct Request {
     pub id: u32,
     pub dip: usize,
     pub dsn: u32,
-    /// Whether the destination's number is known. It may be other than 0 all the same.
+    /// Whether the destination's number is known. Even if it isn't, `dsn` may be other than 0.
     pub known: bool,
     pub oip: usize,
     pub osn: u32,

@@ -22,7 +22,7 @@ use aodv_table::Table;
 use aodv_wire::RerrView;
 use mesh_base::{Cast, Effect, MOST_NODES, Mesh, Packet};
 
-// States the number for d, where none is stated.
+// Records the number for d, if none is recorded yet.
 fn state_number(numbers: &mut [Option<u32>], d: usize, number: u32)
     requires { d < length numbers.old }
     ensures { let stated = Some (unwrap_or (get_or numbers.old d None) number) in (q : ℕ) →
@@ -33,8 +33,8 @@ fn state_number(numbers: &mut [Option<u32>], d: usize, number: u32)
     }
 }
 
-// Puts down the number that a route error states for each node of the mesh. Where it states two,
-// the first.
+// Records the number that a route error states for each node of the mesh. If it states two, the
+// first is recorded.
 fn state_numbers(mesh: &Mesh, m: &RerrView<'_>, numbers: &mut [Option<u32>])
     requires known { stranger mesh.now (a_rerr m.now) ≡ None }
     requires size { length numbers.old ≡ MOST_NODES }
@@ -42,7 +42,8 @@ fn state_numbers(mesh: &Mesh, m: &RerrView<'_>, numbers: &mut [Option<u32>])
     ensures size { length numbers.new ≡ MOST_NODES }
     ensures numbers { (d : ℕ) → get_or numbers.new d None ≡ maps.get (dests_in mesh.now m.now) d }
 {
-    // It says that a mesh has at most 200 nodes, so the list has a slot for each of them.
+    // This tells the prover that a mesh has at most 200 nodes, so the list has a slot for each of
+    // them.
     let _few = mesh.len();
     for k in 0..m.len() {
         let (a, number) = m.pair(k);
@@ -51,7 +52,7 @@ fn state_numbers(mesh: &Mesh, m: &RerrView<'_>, numbers: &mut [Option<u32>])
     }
 }
 
-// The number stated for d, where d has a valid entry with that next hop and a smaller number.
+// The number stated for d, if d has a valid entry with that next hop and a smaller number.
 fn accepted_number<T: Table>(table: &T, from: usize, d: usize, stated: Option<u32>) -> Option<u32>
     requires { d < T.nodes table.now }
     ensures { let rt = T.entries table.now in
@@ -65,8 +66,9 @@ fn accepted_number<T: Table>(table: &T, from: usize, d: usize, stated: Option<u3
     }
 }
 
-// The pairs of a route error from a neighbour by which routes are gone, in place of these. It is a
-// call of its own, so that its locals are gone from the stack before the routes are.
+// Puts into `dests`, in place of what it held, the pairs of a route error from a neighbour that
+// make routes invalid. It isn't inlined, so that its locals are off the stack before the routes are
+// made invalid.
 #[inline(never)]
 fn accept_dests<T: Table>(table: &T, mesh: &Mesh, from: usize, m: &RerrView<'_>, dests: &mut Dests)
     requires nodes { T.nodes table.now ≡ length mesh.now }
@@ -85,7 +87,7 @@ fn accept_dests<T: Table>(table: &T, mesh: &Mesh, from: usize, m: &RerrView<'_>,
 }
 
 // Whether a pair names a destination whose route goes by that neighbour, with a larger number than
-// the route's. Where two pairs name one destination, it may be the second, which isn't accepted.
+// the route's. If two pairs name one destination, that may be the second, which isn't accepted.
 fn may_accept<T: Table>(table: &T, mesh: &Mesh, from: usize, m: &RerrView<'_>) -> bool
     requires nodes { T.nodes table.now ≡ length mesh.now }
     requires known { stranger mesh.now (a_rerr m.now) ≡ None }
@@ -102,8 +104,8 @@ fn may_accept<T: Table>(table: &T, mesh: &Mesh, from: usize, m: &RerrView<'_>) -
     false
 }
 
-// The routes that a route error names are gone. It is a call of its own, since the memory of its
-// locals would be cleared for each error, also where it names none.
+// Makes the routes invalid that a route error names. It isn't inlined: otherwise the memory of its
+// locals would be cleared for each error, even one that names no route.
 #[inline(never)]
 fn retract_accepted<T: Table>(
     core: &mut Core<T>,
@@ -131,7 +133,8 @@ fn retract_accepted<T: Table>(
     retract(core, mesh, &dests, out)
 }
 
-// The same: most errors name no route that goes by their sender, and change nothing.
+// Does what `retract_accepted` does. Most errors name no route that goes by their sender, and
+// change nothing.
 fn retract_stated<T: Table>(
     core: &mut Core<T>,
     mesh: &Mesh,
@@ -160,8 +163,8 @@ fn retract_stated<T: Table>(
     Cast::Nothing
 }
 
-/// A route error from a neighbour. Only routes by that neighbour are gone, and only those with a
-/// smaller number than stated.
+/// A route error from a neighbour. Only routes by that neighbour become invalid, and only those
+/// with a smaller number than stated.
 #[tactic(auto, unfolding(aodv_model::specs::Handlers::on_rerr, aodv_model::specs::Handlers::after_hearing))]
 #[inline(always)]
 pub fn on_rerr<T: Table>(

@@ -22,8 +22,8 @@ fn neighbour_entry(from: usize) -> Entry
     }
 }
 
-/// A neighbour was heard, and its entry is updated. Mostly that would change nothing, which the
-/// table tells before its entry is read.
+/// Updates the entry of a neighbour that was heard. Usually that would change nothing; the table is
+/// asked about this first.
 #[inline(always)]
 pub(crate) fn note_neighbour<T: Table>(table: &mut T, from: usize)
     requires below { from < T.nodes table.old }
@@ -38,7 +38,7 @@ pub(crate) fn note_neighbour<T: Table>(table: &mut T, from: usize)
     }
 }
 
-/// The entry that a request or a reply with this number and so many hops leads to.
+/// The entry that a request or a reply with this number and this many hops leads to.
 pub(crate) fn route_entry(dsn: u32, hops: u8, from: usize) -> Entry
     requires { hops < 255 }
     ensures { result ≡ the_route_entry dsn hops from }
@@ -53,7 +53,7 @@ pub(crate) fn route_entry(dsn: u32, hops: u8, from: usize) -> Entry
     }
 }
 
-/// The next hop of d's entry.
+/// The next hop of d's entry, or 0 if it has none.
 pub(crate) fn next_hop<T: Table>(table: &T, d: usize) -> usize
     requires { d < T.nodes table.now }
     ensures { result ≡ nhop (T.entries table.now) d }
@@ -75,7 +75,7 @@ pub(crate) fn has_route<T: Table>(table: &T, d: usize) -> bool
     }
 }
 
-/// The sequence number of d, 0 where it has no entry.
+/// The sequence number of d, or 0 if it has no entry.
 pub(crate) fn number<T: Table>(table: &T, d: usize) -> u32
     requires { d < T.nodes table.now }
     ensures { result ≡ sqn (T.entries table.now) d }

@@ -43,7 +43,8 @@ fn pass_on<T: Table>(
     ensures rooms { T.rooms core.new.table ≡ T.rooms core.old.table }
     ensures asked { core.new.asked ≡ core.old.asked }
 {
-    // It says that a mesh has at most 200 nodes, so each of them can be in a set of nodes.
+    // This tells the prover that a mesh has at most 200 nodes, so each of them can be in a set of
+    // nodes.
     let _few = mesh.len();
     let towards = next_hop(&core.table, m.oip);
     let onward = next_hop(&core.table, m.dip);
@@ -61,7 +62,7 @@ fn pass_on<T: Table>(
     }
 }
 
-// What the node's own entry says in place of the reply, where that entry is valid.
+// What the node's own entry says in place of the reply, if that entry is valid.
 fn own_reply<T: Table>(core: &Core<T>, m: Reply) -> Option<Reply>
     requires dip { m.dip < T.nodes core.now.table }
     requires number { 1 ≤ sqn (T.entries core.now.table) m.dip }
@@ -80,7 +81,7 @@ fn own_reply<T: Table>(core: &Core<T>, m: Reply) -> Option<Reply>
     }
 }
 
-// The reply that goes on where m was heard, if one does, in the core after its updates.
+// The reply that goes on after m was heard, if one does, in the core after its updates.
 fn reply_to_pass_on<T: Table>(core: &Core<T>, changed: bool, m: Reply) -> Option<Reply>
     requires dip { m.dip < T.nodes core.now.table }
     requires oip { m.oip < T.nodes core.now.table }
@@ -106,9 +107,10 @@ fn reply_to_pass_on<T: Table>(core: &Core<T>, changed: bool, m: Reply) -> Option
     }
 }
 
-/// A route reply from a neighbour. It ends here where the node asked for it, where the node has no
-/// route back to who did ask, and where it teaches nothing. In the variant `Reply` a node with a
-/// valid route to the destination passes on what that says, whatever it was taught.
+/// A route reply from a neighbour. It ends here if the node asked for it, if the node has no valid
+/// route back to the one that did, or if it teaches nothing. In the variant `Reply` the last
+/// condition is another: it ends here if the node has no valid route to the destination, and
+/// otherwise goes on as that route says.
 #[inline(always)]
 pub fn take_reply<T: Table>(
     core: &mut Core<T>,
@@ -151,7 +153,7 @@ pub fn take_reply<T: Table>(
     }
 }
 
-/// The same of a reply with the addresses of nodes.
+/// Does what `take_reply` does, with a reply that names nodes by their addresses.
 pub fn on_rrep<T: Table>(
     core: &mut Core<T>,
     mesh: &Mesh,

@@ -25,7 +25,8 @@ fn larger(a: u32, b: u32) -> u32
     if a < b { b } else { a }
 }
 
-// The node is the one asked for. It raises its own number to the one that is wanted.
+// The node is the one asked for, and replies. Its own number becomes the one wanted, if that is
+// larger.
 #[tactic(auto, unfolding(aodv_model::specs::Handlers::reply_for_self))]
 #[inline(always)]
 fn reply_for_self<T: Table>(
@@ -61,7 +62,7 @@ fn reply_for_self<T: Table>(
     }
 }
 
-// The entry of the node that is asked for, where it is new enough to answer with.
+// The entry of the node that is asked for, if this node may answer with it.
 fn route_to_answer_with<T: Table>(core: &Core<T>, m: &Request) -> Option<Entry>
     requires { m.now.dip < T.nodes core.now.table }
     ensures can { is_some result ≡ can_answer (core_of T.entries core.now) (request_of m.now) }
@@ -101,7 +102,8 @@ fn reply_from_table<T: Table>(
     ensures rooms { T.rooms core.new.table ≡ T.rooms core.old.table }
     ensures asked { core.new.asked ≡ core.old.asked }
 {
-    // It says that a mesh has at most 200 nodes, so each of them can be in a set of nodes.
+    // This tells the prover that a mesh has at most 200 nodes, so each of them can be in a set of
+    // nodes.
     let _few = mesh.len();
     let kept_oip = core.table.get(m.oip);
     let towards = next_hop(&core.table, m.oip);
@@ -147,7 +149,7 @@ fn forward_request<T: Table>(core: &Core<T>, mesh: &Mesh, m: &Request, out: &mut
     casting(Cast::All)
 }
 
-// A request that is new, in the core after its updates.
+// A new request, in the core after its updates.
 #[tactic(auto, unfolding(aodv_model::specs::Handlers::on_new_rreq))]
 #[inline(always)]
 fn on_new<T: Table>(
@@ -178,7 +180,8 @@ fn on_new<T: Table>(
     }
 }
 
-// By what a request is known again, beside its originator: its id, or its originator's number.
+// What a request is recognized by, besides its originator: its id, or in the variant `Number` its
+// originator's number.
 fn mark_of(variant: Variant, m: &Request) -> u32
     ensures { key_of variant (request_of m.now) ≡ (m.now.oip, result) }
 {
@@ -188,8 +191,8 @@ fn mark_of(variant: Variant, m: &Request) -> u32
     }
 }
 
-/// A route request from a neighbour. One that was seen before teaches no more than that the
-/// neighbour is there.
+/// A route request from a neighbour. From one that it has seen before, the node learns only that
+/// the neighbour is there.
 #[inline(always)]
 pub fn take_request<T: Table>(
     core: &mut Core<T>,
@@ -237,7 +240,7 @@ pub fn take_request<T: Table>(
     }
 }
 
-/// The same of a request with the addresses of nodes.
+/// Does what `take_request` does, with a request that names nodes by their addresses.
 pub fn on_rreq<T: Table>(
     core: &mut Core<T>,
     mesh: &Mesh,

@@ -8,7 +8,7 @@ use mesh_base::{Item, NoMemory};
 use std::alloc::Global;
 use std::marker::Model;
 
-/// The items that wait, the one that came first at the front.
+/// The items that wait, with the one that came first at the front.
 #[derive(Drop)]
 pub struct Inbox {
     ring: HeapCircularBuffer<Item>,
@@ -39,7 +39,7 @@ impl Inbox {
         })
     }
 
-    /// Makes room for one more item. It asks for memory only where there is none. A full ring
+    /// Makes room for one more item. It asks for memory only if there is no room yet. A full ring
     /// grows by half, so that many pushes take time in proportion to their number.
     pub fn make_room(&mut self) -> Result<(), NoMemory>
         ensures items { self.new.items ≡ self.old.items }
@@ -60,7 +60,7 @@ impl Inbox {
         }
     }
 
-    /// Puts an item at the back. It uses up the room for one.
+    /// Adds an item at the back. It uses up the room for one.
     pub fn push(&mut self, item: Item)
         requires room { 0 < self.old.room }
         requires item { IsItem item }

@@ -1,5 +1,5 @@
--- What a node's effects, kinds and items of the program say of the model's. A message stands in its
--- packet.
+-- The program's effects and kinds for the model's, and the model's items for the program's. In the
+-- program a message is in its packet.
 use Rattle.mesh_base.specs.Meshes.{Nodes}
 use Rattle.mesh_base.specs.declared.events.Effect as effects
 use Rattle.mesh_base.specs.declared.events.Cast as cast
@@ -12,7 +12,7 @@ use Rattle.aodv_model.specs.Cores.{Message, Pkt, Rreq, Rrep, Rerr, Item, New, He
 use Rattle.aodv_model.specs.Handlers.{Cast, Nothing, One, Many, All, Effect}
 use Rattle.aodv_meaning.specs.Meaning.{meaning}
 
--- a cast without its message, which stands in the packet
+-- a cast without its message, which is in the packet
 abbrev pub cast_of : Cast → cast.Cast
 cast_of Nothing = casts.Nothing
 cast_of (One y m) = casts.One y

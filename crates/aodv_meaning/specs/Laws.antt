@@ -1,4 +1,4 @@
--- There and back.
+-- From a message to its packet, and back.
 use Rattle.std.specs.Prelude.{◌≡◌, ◌≤◌, ◌↔◌, ℕ, List, None, length}
 use Rattle.mesh_base.specs.Meshes.{Nodes, IsMesh}
 use Rattle.aodv_model.specs.Cores.{Message}
@@ -7,7 +7,7 @@ use Rattle.aodv_wire.specs.Encodes.{refusal, message_in_fields}
 use Rattle.aodv_meaning.specs.Meaning.{meaning, stranger}
 use Rattle.aodv_meaning.specs.Sent.{IsSent, IsAsWritten}
 
--- what was written of a message means that message, and names nobody outside the mesh
+-- what was written for a message means that message, and names nobody outside the mesh
 abbrev pub SentMeans : Type 0
 SentMeans =
     (mesh : Nodes) (b : List ℕ) (m : Message) → IsMesh mesh → IsMessageInMesh (length mesh) m
@@ -20,8 +20,8 @@ SpelledIsInMesh =
     (mesh : Nodes) (b : List ℕ) → refusal b ≡ None → stranger mesh (message_in_fields b) ≡ None
     → IsMessageInMesh (length mesh) (meaning mesh b)
 
--- the bytes that are sent of what they mean are those that are as a node writes them, in a mesh
--- that has a node
+-- in a mesh that has a node, bytes are what is sent for their meaning exactly where they are as a
+-- node writes them
 abbrev pub WrittenIsSent : Type 0
 WrittenIsSent =
     (mesh : Nodes) (b : List ℕ) → IsMesh mesh → 1 ≤ length mesh

@@ -1,9 +1,10 @@
 -- Read in this order.
--- Meaning: from a packet to a message of the model, and who is named that is no node.
+-- Meaning: from a packet to a message of the model, and which address that it names is no node's.
 pub mod Meaning
 -- Sent: from a message of the model to its packet.
 pub mod Sent
--- Effects: what a node's effects, kinds and items of the program say of the model's.
+-- Effects: the program's effects and kinds for the model's, and the model's items for the
+-- program's.
 pub mod Effects
--- Laws: what is proved of the two.
+-- Laws: what is proved of Meaning and Sent.
 pub mod Laws

@@ -57,13 +57,13 @@ in_mesh mesh (messages.Rrep m) = Rrep (reply_in mesh m)
 in_mesh mesh (messages.Rerr pairs) = Rerr (dests_in mesh pairs)
 in_mesh mesh (messages.Parcel p) = Pkt p.body (index mesh p.dip) (index mesh p.oip)
 
--- what the bytes say in this mesh
+-- what the bytes mean in this mesh
 unfoldable pub meaning : Nodes → List ℕ → Message
 meaning mesh b = in_mesh mesh (message_in_fields b)
 
 -- ---- strangers
 
--- this address where it is outside the mesh, else the rest
+-- this address if it is outside the mesh, otherwise the rest
 abbrev pub unless_in : Nodes → Addr → Option Addr → Option Addr
 unless_in mesh a rest = if is_some (index_of mesh a.0) then rest else Some a
 

@@ -37,7 +37,7 @@ rrep_of mesh m = record { hops = m.hops; dip = addr mesh m.dip; dsn = m.dsn; oip
 abbrev pub pair_by_address : Nodes → ℕ × ℕ → Addr × ℕ
 pair_by_address mesh e = (addr mesh e.0, e.1)
 
--- the pairs of a route error, by rising address
+-- the pairs of a route error, in rising order of their addresses
 abbrev pub pairs_of : Nodes → Dests → List (Addr × ℕ)
 pairs_of mesh dests = map (pair_by_address mesh) (maps.entries dests)
 
@@ -49,13 +49,13 @@ out_of mesh (Rerr dests) = messages.Rerr (pairs_of mesh dests)
 out_of mesh (Pkt b d o) =
     messages.Parcel (record { dip = addr mesh d; oip = addr mesh o; body = b })
 
--- the bytes are what is written of the message, and encode it
+-- the bytes are what is written for the message, and encode it
 pub record IsSent (mesh : Nodes) (b : List ℕ) (m : Message) : Type 0 where
   pub written : b ≡ encoding (out_of mesh m)
   pub encodes : Encodes b (out_of mesh m)
 
--- a message that can be written: of the route errors those whose addresses rise, few enough for a
--- mesh
+-- a message that can be written: a route error only if it has 1 to 200 destinations, in rising
+-- order of their addresses
 abbrev pub IsWritable : wire.Message → Type 0
 IsWritable (messages.Rreq m) = ⊤
 IsWritable (messages.Rrep m) = ⊤
@@ -63,14 +63,14 @@ IsWritable (messages.Rerr pairs) = AreDestinations pairs
 IsWritable (messages.Parcel p) = ⊤
 
 -- bytes as a node of the mesh writes them: they encode a message that names nodes of the mesh only
--- and can be written, and they are what is written of it
+-- and can be written, and they are what is written for it
 pub record IsAsWritten (mesh : Nodes) (b : List ℕ) : Type 0 where
   pub allowed : refusal b ≡ None
   pub known : stranger mesh (message_in_fields b) ≡ None
   pub writable : IsWritable (message_in_fields b)
   pub same : b ≡ encoding (message_in_fields b)
 
--- the packet of a cast: none, or what is written of its message
+-- the packet of a cast: none, or what is written for its message
 abbrev pub IsPacket : Nodes → List ℕ → Cast → Type 0
 IsPacket mesh b Nothing = b ≡ []
 IsPacket mesh b (One y m) = IsSent mesh b m

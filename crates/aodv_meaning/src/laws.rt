@@ -1,7 +1,7 @@
-//! The laws, as functions with nothing to do.
+//! The laws, as functions that do nothing.
 ghost use Rattle.aodv_meaning.specs.Laws.{SentMeans, SpelledIsInMesh, WrittenIsSent};
 
-/// What was written of a message means that message, and names nobody outside the mesh.
+/// What was written for a message means that message, and names nobody outside the mesh.
 pub fn sent_means()
     ensures { SentMeans }
 {}
@@ -11,8 +11,8 @@ pub fn spelled_is_in_mesh()
     ensures { SpelledIsInMesh }
 {}
 
-/// Bytes are sent of what they mean exactly where they encode a message of the mesh and are what is
-/// written of it: what a reader can test.
+/// In a mesh that has a node, bytes are what is sent for their meaning exactly where they encode a
+/// message of the mesh and are what is written for it, which a reader can test.
 pub fn written_is_sent()
     ensures { WrittenIsSent }
 {}

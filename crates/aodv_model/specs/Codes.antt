@@ -1,5 +1,5 @@
--- Codes of the states of the model, so that a type of the code can be seen as one. They are no part
--- of the protocol.
+-- Codes for the model's states, so that a type of the code can have one as its view. They are no
+-- part of the protocol.
 use Rattle.std.specs.Prelude.{◌≡◌, ℕ, ◌⊎◌, Bool, true, false, List, refl}
 use Rattle.std.proofs.Common.{inl, inr}
 use Rattle.std.specs.Coded.{Coded, code_by, coded×, coded⊎, coded_ℕ, coded_bool, coded_list}
@@ -26,7 +26,7 @@ pub known_back : (k : Known) → known_of (is_kno k) ≡ k
 known_back Kno = refl
 known_back Unk = refl
 
--- of whether a number is known
+-- a code for whether a number is known
 abbrev pub known_code : Coded Known
 known_code = code_by Bool coded_bool is_kno known_of known_back
 
@@ -38,7 +38,7 @@ pub flag_back : (f : Flag) → flag_of (is_val f) ≡ f
 flag_back Val = refl
 flag_back Inv = refl
 
--- of flags
+-- a code for flags
 abbrev pub flag_code : Coded Flag
 flag_code = code_by Bool coded_bool is_val flag_of flag_back
 
@@ -60,12 +60,12 @@ variant_back Number = refl
 variant_back Reply = refl
 variant_back Error = refl
 
--- of variants
+-- a code for variants
 abbrev pub variant_code : Coded Variant
 variant_code =
     code_by (Bool × Bool) (coded× coded_bool coded_bool) bits (λ p. variant_of p.0 p.1) variant_back
 
--- of entries
+-- a code for entries
 abbrev pub entry_code : Coded Entry
 entry_code =
     code_by (ℕ × (Known × (Flag × (ℕ × (ℕ × NodeIds)))))
@@ -83,11 +83,11 @@ entry_code =
     })
     (λ _. refl)
 
--- of tables
+-- a code for tables
 abbrev pub table_code : Coded Table
 table_code = maps.code coded_ℕ entry_code
 
--- of route requests
+-- a code for route requests
 abbrev pub request_code : Coded RouteRequest
 request_code =
     code_by (ℕ × (ℕ × (ℕ × (ℕ × (Known × (ℕ × ℕ))))))
@@ -106,7 +106,7 @@ request_code =
     })
     (λ _. refl)
 
--- of route replies
+-- a code for route replies
 abbrev pub reply_code : Coded RouteReply
 reply_code =
     code_by (ℕ × (ℕ × (ℕ × ℕ))) (coded× coded_ℕ (coded× coded_ℕ (coded× coded_ℕ coded_ℕ)))
@@ -135,7 +135,7 @@ message_back (Rreq m) = refl
 message_back (Rrep m) = refl
 message_back (Rerr dests) = refl
 
--- of messages
+-- a code for messages
 abbrev pub message_code : Coded Message
 message_code =
     code_by Parts
@@ -155,25 +155,25 @@ pub item_back : (i : Item) → item_of (item_parts i) ≡ i
 item_back (New b d) = refl
 item_back (Heard from m) = refl
 
--- of items
+-- a code for items
 abbrev pub item_code : Coded Item
 item_code =
     code_by ((Body × ℕ) ⊎ (ℕ × Message))
     (coded⊎ (coded× (coded_list coded_ℕ) coded_ℕ)
     (coded× coded_ℕ message_code)) item_parts item_of item_back
 
--- of waiting data
+-- a code for waiting data
 abbrev pub waiting_code : Coded Waiting
 waiting_code =
     code_by (Bool × List Body) (coded× coded_bool (coded_list (coded_list coded_ℕ)))
     (λ s. (s.needs_request, s.bodies)) (λ p. record { needs_request = p.0; bodies = p.1 })
     (λ _. refl)
 
--- of sets of pairs
+-- a code for sets of pairs
 abbrev pub pairs_code : Coded Pairs
 pairs_code = sets.code (coded× coded_ℕ coded_ℕ)
 
--- of cores
+-- a code for cores
 abbrev pub core_code : Coded Core
 core_code =
     code_by (ℕ × (Variant × (ℕ × (Table × (Pairs × Store)))))

@@ -10,14 +10,14 @@ use Rattle.aodv_model.specs.declared.entry.Known.{Known}
 use Rattle.aodv_model.specs.Pairs.{Pairs}
 use Rattle.aodv_model.specs.Tables.{Table, Dests, map_values}
 
--- ---- messages (RFC 3561, section 5). The sender of a message stands beside it
+-- ---- messages (RFC 3561, section 5). A message doesn't contain its sender
 
--- a datum, as its bytes
+-- a datum: its bytes
 abbrev pub Body : Type 0
 Body = List ℕ
 
--- a route request (RFC 3561, section 5.1), passed on by as many nodes as it has hops.
--- oip asks for dip: osn is oip's own number; dsn is the number of dip that is wanted, and dsk says
+-- a route request (RFC 3561, section 5.1). hops is the number of nodes that have passed it on.
+-- oip asks for dip: osn is oip's own number; dsn is the number that is wanted of dip, and dsk says
 -- whether oip knew it (nodes on the way raise dsn to what they know, and leave dsk)
 pub record RouteRequest : Type 0 where
   pub hops : ℕ
@@ -28,8 +28,8 @@ pub record RouteRequest : Type 0 where
   pub oip : ℕ
   pub osn : ℕ
 
--- a route reply (RFC 3561, section 5.2) on its way to oip: the sender has a route to dip with that
--- number and so many hops
+-- a route reply (RFC 3561, section 5.2) on its way to oip: the sender has a route to dip with the
+-- number dsn and this many hops
 pub record RouteReply : Type 0 where
   pub hops : ℕ
   pub dip : ℕ
@@ -58,7 +58,7 @@ pub record Waiting : Type 0 where
   pub needs_request : Bool
   pub bodies : List Body
 
--- by destination. In a mesh only destinations with data stand in it (Soundness)
+-- what waits, by destination. In a mesh only destinations with data are in it (Soundness)
 abbrev pub Store : Type 0
 Store = FinMap nat_cmp Waiting
 
@@ -72,12 +72,12 @@ abbrev pub needs_in : Option Waiting → Bool
 needs_in None = false
 needs_in (Some s) = s.needs_request
 
--- one datum more, behind the others
+-- one datum more, after the others
 abbrev pub with_body : Option Waiting → Body → Waiting
 with_body None b = record { needs_request = true; bodies = b ∷ [] }
 with_body (Some s) b = record s { bodies = s.bodies ++ b ∷ [] }
 
--- the datum waits for d, behind those that are there; a destination that is new needs a request
+-- the datum waits for d, after those that already do; a new destination needs a request
 unfoldable pub add : Store → ℕ → Body → Store
 add store d b = maps.insert store d (with_body (maps.get store d) b)
 
@@ -86,13 +86,13 @@ abbrev pub rest : List Body → List Body
 rest [] = []
 rest (b ∷ bs) = bs
 
--- the store with these data for d, or without d where there are none
+-- the store with these data for d, or without d if there are none
 abbrev pub drop_first : Store → ℕ → List Body → Bool → Store
 drop_first store d [] needs = maps.remove store d
 drop_first store d (b ∷ bs) needs =
     maps.insert store d (record { needs_request = needs; bodies = b ∷ bs })
 
--- d's first datum is gone, and d with its last datum
+-- the store without d's first datum, and without d if that was its last
 unfoldable pub drop : Store → ℕ → Store
 drop store d =
     drop_first store d (rest (bodies_in (maps.get store d))) (needs_in (maps.get store d))
@@ -121,22 +121,22 @@ in_qD store d = has_data (bodies_in (maps.get store d))
 
 -- ---- the core
 
--- the route requests that a node has seen: for each its originator, beside its id or (in one
--- variant) its number
+-- the route requests that a node has seen, each as its originator with its id or (in the variant
+-- `Number`) with the originator's number
 abbrev pub SeenRequests : Type 0
 SeenRequests = Pairs
 
--- the request of that key was seen
+-- the request with this key was seen
 abbrev pub has_seen : SeenRequests → ℕ × ℕ → Bool
 has_seen seen key = sets.contains seen key
 
--- the greatest second member beside o, or 0
+-- the greatest second number in a pair with o, or 0
 abbrev pub greatest_beside : List (ℕ × ℕ) → ℕ → ℕ
 greatest_beside [] o = 0
 greatest_beside (k ∷ ks) o =
     if k.0 == o then max k.1 (greatest_beside ks o) else greatest_beside ks o
 
--- the greatest id beside o, or 0 where there is none
+-- the greatest id of a request of o that was seen, or 0 if there is none
 unfoldable pub last_request_id : SeenRequests → ℕ → ℕ
 last_request_id seen o = greatest_beside (sets.items seen) o
 
@@ -144,7 +144,7 @@ last_request_id seen o = greatest_beside (sets.items seen) o
 unfoldable pub next_request_id : SeenRequests → ℕ → ℕ
 next_request_id seen o = last_request_id seen o + 1
 
--- the state of a node but for its queue: its address, its variant of the protocol, its own sequence
+-- the state of a node except its queue: its address, its variant of the protocol, its own sequence
 -- number, its routing table, the requests that it has seen, and its store
 pub record Core : Type 0 where
   pub ip : ℕ

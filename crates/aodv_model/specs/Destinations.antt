@@ -7,6 +7,6 @@ use Rattle.std.specs.FinMap.{FinMap, is_sorted}
 abbrev pub Numbers : Type 0
 Numbers = FinMap nat_cmp ℕ
 
--- the pairs stand by strictly rising destination
+-- the pairs are in strictly rising order of their destinations
 pub record IsRising (pairs : List (ℕ × ℕ)) : Type 0 where
   pub sorted : IsTrue (is_sorted nat_cmp pairs)

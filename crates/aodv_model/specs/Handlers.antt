@@ -1,6 +1,6 @@
 -- Part of what the headline says.
 -- What a node does in one turn, at the send of a stored datum, and at a route request.
--- The variant `Base` is AWN's; what the other three do in its place is said where they differ.
+-- The variant `Base` is AWN's; what the other three do instead is said where they differ.
 use Rattle.std.specs.Prelude.{ℕ, ◌+◌, Bool, true, false, not, ◌&&◌, ◌||◌, ◌==◌, nat_le, if◌then◌else◌, Option, Some, None, List, [], ◌∷◌, max, is_some}
 use Rattle.std.specs.FinMap as maps
 use Rattle.std.specs.FinSet as sets
@@ -24,15 +24,15 @@ pub data Cast : Type 0 where
   Many : NodeIds → Message → Cast
   All : Message → Cast
 
--- what a step does beside its new state: a datum is delivered here; a datum is lost; the next hop
--- that a unicast failed to reach; and the message that is cast
+-- what a step does besides making the new state: whether a datum is delivered here, and whether one
+-- is lost; the next hop that a unicast failed to reach; and the message that is cast
 pub record Effect : Type 0 where
   pub deliver : Bool
   pub lost : Bool
   pub broken : Option ℕ
   pub cast : Cast
 
--- a new core, and the effect with it
+-- a new core, and an effect
 pub record Reaction : Type 0 where
   pub core : Core
   pub effect : Effect
@@ -50,7 +50,7 @@ pub data Took : Type 0 where
 abbrev pub quiet : Effect
 quiet = record { deliver = false; lost = false; broken = None; cast = Nothing }
 
--- the cast alone
+-- this cast, and no other effect
 abbrev pub casting : Cast → Effect
 casting c = record quiet { cast = c }
 
@@ -62,21 +62,21 @@ delivering = record quiet { deliver = true }
 abbrev pub plain : Core → Effect → Reaction
 plain core effect = record { core = core; effect = effect }
 
--- this core, without effect
+-- this core, with no effect
 abbrev pub only : Core → Reaction
 only core = plain core quiet
 
--- the same, and a datum is lost
+-- the reaction, in which a datum is lost too
 abbrev pub losing : Reaction → Reaction
 losing reaction = record reaction { effect = record (reaction.effect) { lost = true } }
 
--- the same, and a datum is lost where a link broke
+-- the reaction, in which a datum is lost if a link broke
 abbrev pub losing_if_broken : Reaction → Reaction
 losing_if_broken reaction = record reaction {
   effect = record (reaction.effect) { lost = is_some (reaction.effect).broken };
 }
 
--- the same, where the unicast to y failed
+-- the reaction, in which the unicast to y failed
 abbrev pub broken_by : ℕ → Reaction → Reaction
 broken_by y reaction = record reaction { effect = record (reaction.effect) { broken = Some y } }
 
@@ -110,31 +110,31 @@ precs_of rt dests = all_precs rt (maps.keys dests)
 unfoldable pub with_precs : Table → Dests → Dests
 with_precs rt dests = maps.retain_keys dests (λ d. not (is_empty (precs rt d)))
 
--- the route error of dests: groupcast to the precursors, of those destinations that have any.
--- In the variant `Error` it is broadcast, of all of them
+-- the route error of dests: groupcast to their precursors, with those destinations that have any.
+-- In the variant `Error` it is broadcast, with all of them
 unfoldable pub error_cast : Variant → Table → Dests → Cast
 error_cast v rt dests =
     if is_error v then (if maps.len dests == 0 then Nothing else All (Rerr dests))
     else (if is_empty (precs_of rt dests) then Nothing
     else Many (precs_of rt dests) (Rerr (with_precs rt dests)))
 
--- The routes to dests are gone (steps 2 to 5 of the break of a link):
+-- The routes to dests become invalid (steps 2 to 5 of the break of a link):
 --   1. dests is found: `link_broken` below, or the accepted pairs of a route error
---   2. the table is invalidated by dests, and waiting data for dests need a request
+--   2. the entries of dests become invalid, and waiting data for dests need a request
 --   3. the precursors of all of dests are those to be told
---   4. only destinations with precursors are told of
---   5. the route error is cast to them
+--   4. only destinations with precursors are named
+--   5. the route error is cast to those precursors
 unfoldable pub retract : Core → Dests → Reaction
 retract core dests =
     plain (record core { rt = invalidate core.rt dests; store = set core.store dests })
     (casting (error_cast core.variant core.rt dests))
 
--- the link to y is broken: all valid routes by y are gone, each with the next number
+-- the link to y is broken: all valid routes by y become invalid, each with the next number
 unfoldable pub link_broken : Core → ℕ → Reaction
 link_broken core y = retract core (unreachable_by core.rt y)
 
--- a unicast to y: it arrives where y is in range, and else the link to y is broken (AWN's
--- conditional unicast)
+-- a unicast to y: it is cast if y is in range; otherwise the link to y is broken (AWN's conditional
+-- unicast)
 unfoldable pub unicast : Core → Message → ℕ → NodeIds → Reaction
 unicast core m y range =
     if sets.contains range y then plain core (casting (One y m))
@@ -153,7 +153,7 @@ neighbour_entry from = record {
   pre = sets.empty;
 }
 
--- the entry that a request or reply with this number and so many hops leads to, by its sender
+-- the entry by way of its sender that a request or reply with this number and hop count leads to
 abbrev pub route_entry : ℕ → ℕ → ℕ → Entry
 route_entry n hops from = record {
   dsn = n;
@@ -170,14 +170,14 @@ after_hearing core from = record core { rt = update core.rt from (neighbour_entr
 
 -- ---- data
 
--- a datum given to this node (AWN's NEWPKT): delivered where it is for the node itself, else it
+-- a datum given to this node (AWN's NEWPKT): delivered if it is for the node itself; otherwise it
 -- waits
 unfoldable pub on_new : Core → Body → ℕ → Reaction
 on_new core b d =
     if d == core.ip then plain core delivering
     else only (record core { store = add core.store d b })
 
--- the error for data to d that can't go on: sent where d has an invalid entry, to its precursors if
+-- the error for data to d that can't go on: sent if d has an invalid entry, to its precursors if
 -- there are any. In the variant `Error` it is broadcast
 unfoldable pub data_error : Core → ℕ → Cast
 data_error core d =
@@ -195,16 +195,16 @@ on_pkt core range b d o =
 
 -- ---- route requests (AWN's RREQ; RFC 3561, sections 6.5 and 6.6)
 
--- by what a node knows a request again: its originator and id, or in the variant `Number` its
--- originator and that one's number
+-- what a node recognizes a request by: its originator and id, or in the variant `Number` its
+-- originator and the originator's number
 abbrev pub key_of : Variant → RouteRequest → ℕ × ℕ
 key_of variant.Base m = (m.oip, m.id)
 key_of variant.Number m = (m.oip, m.osn)
 key_of variant.Reply m = (m.oip, m.id)
 key_of variant.Error m = (m.oip, m.id)
 
--- the core once a new request has come: it has a route back to the originator, and will know the
--- request again
+-- the core once a new request has come: its table is updated with the route back to the originator,
+-- and it will recognize the request
 unfoldable pub after_request : Core → ℕ → RouteRequest → Core
 after_request core from m =
     record (after_hearing core from) {
@@ -219,12 +219,12 @@ reply_for_self core range m =
     (Rrep (record { hops = 0; dip = m.dip; dsn = max core.sn m.dsn; oip = m.oip }))
     (nhop core.rt m.oip) range
 
--- the node has a valid route whose number is known and as new as is asked for
+-- the node has a valid route whose number is known and at least the one asked for
 abbrev pub can_answer : Core → RouteRequest → Bool
 can_answer core m =
     in_vD core.rt m.dip && (nat_le m.dsn (sqn core.rt m.dip) && is_kno (sqnf core.rt m.dip))
 
--- the table where the sender joins the precursors of d, and then d's next hop those of o
+-- the table once the sender has joined the precursors of d, and then d's next hop those of o
 unfoldable pub join_answer_precursors : Table → ℕ → ℕ → ℕ → Table
 join_answer_precursors rt d o from =
     let rt1 = add_pre rt d (one from) in add_pre rt1 o (one (nhop rt1 d))
@@ -237,20 +237,20 @@ reply_from_table core range from m =
     (Rrep (record { hops = dhops rt m.dip; dip = m.dip; dsn = sqn rt m.dip; oip = m.oip }))
     (nhop rt m.oip) range
 
--- the node passes the request on, with one hop more and the greatest number of dip that is known
+-- the node passes the request on, with one hop more and the greater of the known numbers of dip
 unfoldable pub forward_request : Core → RouteRequest → Reaction
 forward_request core m =
     plain core
     (casting (All (Rreq (record m { hops = m.hops + 1; dsn = max (sqn core.rt m.dip) m.dsn }))))
 
--- a request that is new, in the core after its updates
+-- a new request, in the core after its updates
 unfoldable pub on_new_rreq : Core → NodeIds → ℕ → RouteRequest → Reaction
 on_new_rreq core range from m =
     if m.dip == core.ip then reply_for_self core range m
     else if can_answer core m then reply_from_table core range from m
     else forward_request core m
 
--- a route request from a neighbour: one that was seen before teaches no more than that the
+-- a route request from a neighbour: from one that it has seen before, the node learns only that the
 -- neighbour is there
 unfoldable pub on_rreq : Core → NodeIds → ℕ → RouteRequest → Reaction
 on_rreq core range from m =
@@ -270,11 +270,11 @@ abbrev pub is_stale_beside : Option Entry → Entry → Bool
 is_stale_beside None r = false
 is_stale_beside (Some s) r = not (is_newer r s) && not (is_shorter r s)
 
--- a reply that leads to the entry r for d is stale: d has an entry that is as new and as short
+-- a reply that leads to the entry r for d is stale: d has an entry, and r is no newer or shorter
 unfoldable pub is_stale : Table → ℕ → Entry → Bool
 is_stale rt d r = is_stale_beside (maps.get rt d) r
 
--- the table where o's next hop joins the precursors of d, and then of d's next hop
+-- the table once o's next hop has joined the precursors of d, and then those of d's next hop
 unfoldable pub join_reply_precursors : Table → ℕ → ℕ → Table
 join_reply_precursors rt d o =
     let rt1 = add_pre rt d (one (nhop rt o)) in add_pre rt1 (nhop rt1 d) (one (nhop rt1 o))
@@ -285,15 +285,15 @@ forward_reply core range m =
     let rt = join_reply_precursors core.rt m.dip m.oip in
     unicast (record core { rt = rt }) (Rrep (record m { hops = m.hops + 1 })) (nhop rt m.oip) range
 
--- the node passes on what its own entry says in place of what the reply said
+-- the node passes the reply on with what its own entry says, in place of what the reply said
 unfoldable pub forward_own_entry : Core → NodeIds → RouteReply → Reaction
 forward_own_entry core range m =
     let rt = join_reply_precursors core.rt m.dip m.oip in
     unicast (record core { rt = rt })
     (Rrep (record m { hops = dhops rt m.dip; dsn = sqn rt m.dip })) (nhop rt m.oip) range
 
--- The reply goes on, in the core after its updates: only where it taught something new (it isn't
--- stale). In the variant `Reply` it goes on wherever the node has a valid route, as that route says
+-- The reply goes on, in the core after its updates, only if it taught something new (isn't stale).
+-- In the variant `Reply` it goes on if the node has a valid route to dip, as that route says
 abbrev pub reply_on : Variant → Core → Bool → NodeIds → RouteReply → Reaction
 reply_on variant.Base core stale range m = if stale then only core else forward_reply core range m
 reply_on variant.Number core stale range m = if stale then only core else forward_reply core range m
@@ -301,8 +301,8 @@ reply_on variant.Reply core stale range m =
     if in_vD core.rt m.dip then forward_own_entry core range m else only core
 reply_on variant.Error core stale range m = if stale then only core else forward_reply core range m
 
--- a route reply from a neighbour: it ends here where the node asked for it, or has no route back to
--- who did
+-- a route reply from a neighbour: it ends here if this node asked for it, or has no valid route
+-- back to the node that did
 unfoldable pub on_rrep : Core → NodeIds → ℕ → RouteReply → Reaction
 on_rrep core range from m =
     if (m.oip == core.ip) || not (in_vD (after_reply core from m).rt m.oip)
@@ -312,8 +312,8 @@ on_rrep core range from m =
 
 -- ---- route errors (AWN's RERR; RFC 3561, section 6.11)
 
--- a route error from a neighbour: only routes by that neighbour are gone, and only by a greater
--- number
+-- a route error from a neighbour: only routes by that neighbour become invalid, and only for a
+-- greater number
 unfoldable pub on_rerr : Core → ℕ → Dests → Reaction
 on_rerr core from dests =
     retract (after_hearing core from) (accepted_unreachable (after_hearing core from).rt from dests)

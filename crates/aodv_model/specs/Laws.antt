@@ -1,4 +1,4 @@
--- The statements that this crate proves of its definitions.
+-- The statements that this crate proves about its definitions.
 use Rattle.std.specs.Prelude.{◌≡◌, ◌↔◌, ℕ, ◌≤◌, ◌<◌, ◌+◌, true, Some}
 use Rattle.std.specs.FinMap as maps
 use Rattle.mesh_base.specs.Members.{NodeIds}
@@ -9,22 +9,21 @@ use Rattle.aodv_model.specs.Handlers.{route_entry, is_stale, turn, may_send, sen
 use Rattle.aodv_model.specs.Fullness.{greatest, has_greatest_by}
 use Rattle.aodv_model.specs.Soundness.{IsSoundCore, IsStoreInMesh, IsItemInMesh, IsEffectInMesh, IsSoundReaction}
 
--- a reply is stale exactly where its update leaves the table equal
+-- a reply is stale exactly where its update leaves the table unchanged
 abbrev pub StaleIsUnchanged : Type 0
 StaleIsUnchanged =
     (rt : Table) (d n hops from : ℕ) →
     let r = route_entry n hops from in (is_stale rt d r ≡ true) ↔ (update rt d r ≡ rt)
 
--- the break of the link to y would give some destination a number past the greatest exactly where
--- some valid entry with next hop y has the greatest
+-- breaking the link to y would give some destination a number past the greatest exactly where some
+-- valid entry with next hop y has the greatest
 abbrev pub FullNumber : Type 0
 FullNumber =
     (rt : Table) (y : ℕ) → (has_greatest_by rt y ≡ true)
     ↔ ((d : ℕ) × (maps.get (unreachable_by rt y) d ≡ Some (greatest + 1)))
 
--- ---- every handler keeps a core in order, whatever the messages are that it is told: each
--- message that a packet of
--- the mesh can encode, from another node, also one that no node of the mesh would send
+-- ---- every handler keeps a core in order, whatever message it hears from another node: any that a
+-- packet of the mesh can encode, even one that no node of the mesh would send
 
 -- a node that has done nothing yet is in order
 abbrev pub OpeningIsSound : Type 0
@@ -54,8 +53,8 @@ AskKeepsCore =
     → core.ip < size → may_ask core d ≡ true
     → IsSoundReaction size core.ip (ask core d)
 
--- ---- the effect of a reaction names nodes of the mesh only: the next hop that wasn't reached,
--- and those that a cast goes to
+-- ---- the effect of a reaction names nodes of the mesh only: the next hop that wasn't reached, and
+-- those to which a cast goes
 
 -- a turn
 abbrev pub TurnNamesTheMesh : Type 0

@@ -12,11 +12,12 @@ pub mod Tables
 pub mod Cores
 -- Handlers: what a node does in one turn, at the send of a stored datum, and at a route request.
 pub mod Handlers
--- Fullness: where a step would raise a counter past its field's greatest value.
+-- Fullness: when a step would raise a counter past its field's greatest value.
 pub mod Fullness
--- Soundness: what each node's state keeps, and which messages it may be told.
+-- Soundness: what holds of each node's state, and which messages a node may hear.
 pub mod Soundness
--- Laws: the statements that this crate proves of the above.
+-- Laws: the statements that this crate proves about the above.
 pub mod Laws
--- Codes: no part of the protocol. They let a type of the code be seen as a state of the model.
+-- Codes: no part of the protocol. They let a type of the code have a state of the model as its
+-- view.
 pub mod Codes

@@ -19,10 +19,10 @@ is_val Inv = false
 abbrev pub inc : ℕ → ℕ
 inc n = if n == 0 then 0 else n + 1
 
--- the net number of an entry: one less where the route broke, since the break raised it
+-- the net number of an entry: one less if the route broke, since the break raised it (0 stays 0)
 abbrev pub nsqn : Entry → ℕ
 nsqn e = if is_val e.flag || (e.dsn == 0) then e.dsn else e.dsn - 1
 
--- a is better than b: a greater net number, or the same with fewer hops
+-- a is better than b: it has a greater net number, or the same one with fewer hops
 abbrev pub is_better : Entry → Entry → Bool
 is_better a b = nat_lt (nsqn b) (nsqn a) || ((nsqn a == nsqn b) && nat_lt a.hops b.hops)

@@ -1,5 +1,5 @@
--- What the state of each node keeps, and which messages it may be told.
--- `size` is the number of nodes of the mesh: node x is in it where x < size.
+-- What holds of the state of each node, and which messages a node may hear.
+-- `size` is the number of nodes of the mesh: node x is in it if x < size.
 use Rattle.std.specs.Prelude.{◌≡◌, ◌≢◌, ℕ, ◌<◌, ◌≤◌, true, [], length, Some, IfSome, ⊤}
 use Rattle.std.specs.List.{AllByRecursion}
 use Rattle.std.specs.FinMap as maps
@@ -14,8 +14,8 @@ use Rattle.aodv_model.specs.Cores.{Body, Message, Pkt, Rreq, Rrep, Rerr, Item, N
 
 -- ---- numbers
 
--- an entry for d: it has a hop or more; a number that is known isn't 0; an entry with number 0 is a
--- neighbour's own
+-- an entry for d: it has at least one hop; a known number isn't 0; an entry with number 0 is for a
+-- neighbour, by one hop to d itself
 pub record HasSoundNumber (d : ℕ) (e : Entry) : Type 0 where
   pub hops : 1 ≤ e.hops
   pub known : e.dsk ≡ Kno → 1 ≤ e.dsn
@@ -45,17 +45,17 @@ pub record IsEntryInMesh (size ip : ℕ) (rt : Table) (d : ℕ) (e : Entry) : Ty
   pub has : in_kD rt e.next ≡ true
   pub pre : AreBelow size e.pre
 
--- so is each entry of the table of node ip
+-- each entry of node ip's table is such an entry
 abbrev pub AreEntriesInMesh : ℕ → ℕ → Table → Type 0
 AreEntriesInMesh size ip rt =
     (d : ℕ) (e : Entry) → maps.get rt d ≡ Some e → IsEntryInMesh size ip rt d e
 
--- a table of node ip: the numbers of its entries, and the nodes that they name
+-- a table of node ip: the numbers of its entries are sound, and they name nodes of the mesh
 pub record IsSoundTable (size ip : ℕ) (rt : Table) : Type 0 where
   pub numbers : AllSoundNumbers rt
   pub in_mesh : AreEntriesInMesh size ip rt
 
--- what every core of a mesh of this size keeps
+-- what holds of every core in a mesh of this size
 pub record IsSoundCore (size : ℕ) (core : Core) : Type 0 where
   pub own : 1 ≤ core.sn
   pub table : IsSoundTable size core.ip core.rt
@@ -66,13 +66,13 @@ pub record IsSoundCore (size : ℕ) (core : Core) : Type 0 where
 abbrev pub IsDatum : Body → Type 0
 IsDatum b = (1 ≤ length b) × (length b ≤ LONGEST_DATUM)
 
--- what waits for d: d is in the mesh, and there are data
+-- what waits for d: d is in the mesh, and there are data, each of 1 to 512 bytes
 pub record IsWaitingInMesh (size d : ℕ) (waiting : Waiting) : Type 0 where
   pub dest : d < size
   pub some : waiting.bodies ≢ []
   pub bodies : AllByRecursion IsDatum waiting.bodies
 
--- whatever waits is in the mesh
+-- what waits for each destination is such
 abbrev pub IsStoreInMesh : ℕ → Store → Type 0
 IsStoreInMesh size store =
     (d : ℕ) (waiting : Waiting) → maps.get store d ≡ Some waiting → IsWaitingInMesh size d waiting
@@ -81,8 +81,8 @@ IsStoreInMesh size store =
 abbrev pub AreDestsBelow : ℕ → Dests → Type 0
 AreDestsBelow size dests = (d n : ℕ) → maps.get dests d ≡ Some n → d < size
 
--- what a message of the mesh has, whatever node sent it: it names nodes of the mesh only, its datum
--- has 1 to 512 bytes, and neither the number of a request's originator nor that of a reply's
+-- what holds of a message of the mesh, whichever node sent it: it names nodes of the mesh only, its
+-- datum has 1 to 512 bytes, and neither the number of a request's originator nor that of a reply's
 -- destination is 0. The greatest values of its fields are no part of this
 abbrev pub IsMessageInMesh : ℕ → Message → Type 0
 IsMessageInMesh size (Pkt b d o) = (d < size) × (o < size) × IsDatum b
@@ -109,12 +109,12 @@ IsAimed size (One y m) = y < size
 IsAimed size (Many s m) = AreBelow size s
 IsAimed size (All m) = ⊤
 
--- so does the whole effect: the next hop that wasn't reached is in the mesh too
+-- the whole effect names nodes of the mesh only: the next hop that wasn't reached is one too
 pub record IsEffectInMesh (size : ℕ) (e : Effect) : Type 0 where
   pub broken : IfSome e.broken (λ y. y < size)
   pub cast : IsAimed size e.cast
 
--- a reaction of node ip leaves its core and its store in order, and casts such a message
+-- a reaction of node ip leaves its core and its store in order, and casts only such a message
 pub record IsSoundReaction (size ip : ℕ) (reaction : Reaction) : Type 0 where
   pub named : (reaction.core).ip ≡ ip
   pub core : IsSoundCore size reaction.core

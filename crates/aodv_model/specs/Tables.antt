@@ -1,8 +1,8 @@
 -- Part of what the headline says.
 -- Routing tables: what they say of a destination, and how they change (RFC 3561, sections 2 and
 -- 6.2; AWN's functions sqn, sqnf, nhop, dhops, precs, update, invalidate and addpreRT).
--- A node is its index in the mesh. Numbers have no greatest value here: Fullness says where a step
--- ends at one.
+-- A node is its index in the mesh. Numbers have no greatest value here: Fullness says which steps
+-- aren't made because a field is full.
 use Rattle.std.specs.Prelude.{ℕ, Bool, true, false, not, ◌&&◌, ◌||◌, ◌==◌, nat_lt, if◌then◌else◌, Option, Some, None, map, unwrap_or}
 use Rattle.std.specs.Ordering.{nat_cmp}
 use Rattle.std.specs.FinMap as maps
@@ -30,7 +30,7 @@ abbrev pub number_in : Option Entry → ℕ
 number_in None = 0
 number_in (Some e) = e.dsn
 
--- whether the number of an entry is known, or `Unk`
+-- whether the number of an entry is known; `Unk` if there is no entry
 abbrev pub status_in : Option Entry → Known
 status_in None = Unk
 status_in (Some e) = e.dsk
@@ -65,11 +65,11 @@ abbrev pub pre_in : Option Entry → NodeIds
 pre_in None = sets.empty
 pre_in (Some e) = e.pre
 
--- d's sequence number, or 0 (unknown) where it has no entry
+-- d's sequence number, or 0 (unknown) if it has no entry
 abbrev pub sqn : Table → ℕ → ℕ
 sqn rt d = number_in (maps.get rt d)
 
--- whether d's number is known: `Unk` where it has no entry
+-- whether d's number is known: `Unk` if it has no entry
 abbrev pub sqnf : Table → ℕ → Known
 sqnf rt d = status_in (maps.get rt d)
 
@@ -85,7 +85,7 @@ in_iD rt d = is_invalid_in (maps.get rt d)
 abbrev pub in_kD : Table → ℕ → Bool
 in_kD rt d = is_some_in (maps.get rt d)
 
--- d's next hop; this and the next two are read only where d has an entry
+-- d's next hop; this and the next two are read only if d has an entry
 abbrev pub nhop : Table → ℕ → ℕ
 nhop rt d = next_in (maps.get rt d)
 
@@ -107,11 +107,11 @@ is_newer r s = nat_lt s.dsn r.dsn
 abbrev pub is_shorter : Entry → Entry → Bool
 is_shorter r s = (s.dsn == r.dsn) && (nat_lt r.hops s.hops || not (is_val s.flag))
 
--- What becomes of the entry s where r, which is valid, comes for the same destination, in the first
--- case that applies:
+-- What becomes of the entry s when a valid entry r comes for the same destination, by the first of
+-- these cases that applies:
 --   1. there is no s: r is added (entry_after, below)
 --   2. r is newer than s: r, with the precursors of both
---   3. r is shorter than s: the same
+--   3. r is shorter than s: r, with the precursors of both
 --   4. r's number is unknown: r, with the precursors of both and the number of s
 --   5. otherwise: s, with the precursors of both
 unfoldable pub merge : Entry → Entry → Entry
@@ -132,11 +132,11 @@ update rt d r = maps.insert rt d (entry_after (maps.get rt d) r)
 
 -- ---- invalidation, and precursors
 
--- the same keys, with values by f
+-- the map with the same keys, and the values that f gives
 unfoldable pub map_values : {V W : Type 0} → (ℕ → V → W) → FinMap nat_cmp V → FinMap nat_cmp W
 map_values f m = maps.from_entries (map (λ e. (e.0, f e.0 e.1)) (maps.entries m))
 
--- an entry for which the map states a number, or not
+-- the entry with the number that is stated for it, and invalid; or as it is, if none is stated
 abbrev pub invalidated : Entry → Option ℕ → Entry
 invalidated e None = e
 invalidated e (Some n) = record e { dsn = n; flag = Inv }
@@ -146,7 +146,7 @@ invalidated e (Some n) = record e { dsn = n; flag = Inv }
 unfoldable pub invalidate : Table → Dests → Table
 invalidate rt dests = map_values (λ d e. invalidated e (maps.get dests d)) rt
 
--- the entry e of k, where the nodes join the precursors of d
+-- the entry e of k, once the nodes have joined the precursors of d
 abbrev pub add_pre_at : ℕ → NodeIds → ℕ → Entry → Entry
 add_pre_at d nodes k e = if k == d then record e { pre = sets.union e.pre nodes } else e
 
@@ -161,14 +161,14 @@ abbrev pub goes_by : Option Entry → ℕ → Bool
 goes_by None y = false
 goes_by (Some e) y = is_val e.flag && (e.next == y)
 
--- where the link to y broke: each destination of a valid entry with next hop y, with the next
--- number (an unknown number stays so)
+-- when the link to y breaks: each destination of a valid entry with next hop y, with the next
+-- number (0, which is unknown, stays 0)
 unfoldable pub unreachable_by : Table → ℕ → Dests
 unreachable_by rt y =
     map_values (λ d e. inc e.dsn) (maps.retain_keys rt (λ d. goes_by (maps.get rt d) y))
 
--- of the pairs of a route error from y: those whose destination has a valid entry with next hop y
--- and a smaller number
+-- the pairs of a route error from y whose destination has a valid entry with next hop y and a
+-- smaller number
 unfoldable pub accepted_unreachable : Table → ℕ → Dests → Dests
 accepted_unreachable rt y dests =
     maps.retain_keys dests

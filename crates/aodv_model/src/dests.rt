@@ -7,8 +7,7 @@ use arrayvec::ArrayVec;
 use mesh_base::MOST_NODES;
 use std::marker::Model;
 
-/// At most 200 destinations in rising order, each with a sequence number. It takes no memory but
-/// its own.
+/// At most 200 destinations in rising order, each with a sequence number. It allocates nothing.
 #[derive(Drop)]
 pub struct Dests {
     pairs: ArrayVec<(usize, u32), MOST_NODES>,
@@ -28,7 +27,7 @@ impl Model for Dests {
     ghost invariant = { λ d. IsRising d.pairs.items };
 }
 
-// How many pairs have a lower destination: a binary search.
+// The number of pairs with a destination below d, by binary search.
 fn count_below(pairs: &[(usize, u32)], d: usize) -> usize
     requires { IsRising pairs.now }
     ensures within { result ≤ length pairs.now }
@@ -73,7 +72,7 @@ impl Dests {
         self.pairs.as_slice()[k]
     }
 
-    /// The number of a destination, if it is there. It is found by a binary search.
+    /// The sequence number of a destination, if it is there, by binary search.
     pub fn number(&self, d: usize) -> Option<u32>
         ensures { result ≡ maps.get self.now d }
     {
@@ -89,7 +88,7 @@ impl Dests {
         }
     }
 
-    /// Adds a destination above the last.
+    /// Adds a destination that is above all others.
     pub fn push(&mut self, d: usize, n: u32)
         requires room { length (maps.entries self.old) < MOST_NODES }
         requires above { (q : ℕ) → d ≤ q → maps.get self.old q ≡ None }
@@ -99,7 +98,7 @@ impl Dests {
         self.pairs.push((d, n));
     }
 
-    /// Takes all destinations away.
+    /// Removes all destinations.
     pub fn clear(&mut self)
         ensures map { self.new ≡ maps.empty }
         ensures entries { maps.entries self.new ≡ [] }

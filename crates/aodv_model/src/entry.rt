@@ -8,7 +8,8 @@ use mesh_base::NodeSet;
 pub enum Known {
     /// The number came with a request or a reply.
     Kno,
-    /// The last news was only that the destination is a neighbour. An older number may stand.
+    /// The latest news was only that the destination is a neighbour. The entry may keep an older
+    /// number.
     Unk,
 }
 
@@ -22,7 +23,7 @@ pub enum Flag {
     Inv,
 }
 
-/// The route to one destination, which the table has as its key (RFC 3561, section 2).
+/// The route to one destination, which is its key in the table (RFC 3561, section 2).
 #[derive(Clone, Copy)]
 pub struct Entry {
     /// The destination's sequence number. 0 is unknown.
@@ -31,7 +32,7 @@ pub struct Entry {
     pub dsk: Known,
     /// Whether the route is valid.
     pub flag: Flag,
-    /// The number of hops to the destination. Tables of routers hold 1 or more here.
+    /// The number of hops to the destination. It is at least 1 in a router's table.
     pub hops: u8,
     /// The next hop towards the destination.
     pub next: usize,

@@ -1,13 +1,13 @@
 //! Laws of one node. Each function has an empty body and a contract that states a law.
 ghost use Rattle.aodv_model.specs.Laws.{StaleIsUnchanged, FullNumber, OpeningIsSound, TurnKeepsCore, SendKeepsCore, AskKeepsCore, TurnNamesTheMesh, SendNamesTheMesh, AskNamesTheMesh};
 
-/// A reply is stale exactly where its update leaves the table equal.
+/// A reply is stale exactly where its update leaves the table unchanged.
 pub fn stale_is_unchanged()
     ensures { StaleIsUnchanged }
 {}
 
-/// The break of a link would raise a number past the greatest exactly where a valid entry by that
-/// link has the greatest.
+/// Breaking a link would raise a number past the greatest exactly where a valid entry that goes by
+/// that link has the greatest.
 pub fn full_number()
     ensures { FullNumber }
 {}
@@ -17,7 +17,7 @@ pub fn opening_is_sound()
     ensures { OpeningIsSound }
 {}
 
-/// A turn keeps a node in order, whatever message of the mesh it is told.
+/// A turn keeps a node in order, whatever message of the mesh it hears.
 pub fn turn_keeps_core()
     ensures { TurnKeepsCore }
 {}
@@ -27,7 +27,7 @@ pub fn send_keeps_core()
     ensures { SendKeepsCore }
 {}
 
-/// A request of its own keeps a node in order.
+/// A node's own request keeps it in order.
 pub fn ask_keeps_core()
     ensures { AskKeepsCore }
 {}
@@ -42,7 +42,7 @@ pub fn send_names_the_mesh()
     ensures { SendNamesTheMesh }
 {}
 
-/// The effect of a request of its own names nodes of the mesh only.
+/// The effect of a node's own request names nodes of the mesh only.
 pub fn ask_names_the_mesh()
     ensures { AskNamesTheMesh }
 {}

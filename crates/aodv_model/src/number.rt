@@ -23,7 +23,7 @@ pub fn nsqn(e: &Entry) -> u32
     }
 }
 
-/// Whether a is better than b: a greater net number, or the same with fewer hops.
+/// Whether a is better than b: it has a greater net number, or the same one with fewer hops.
 pub fn better(a: &Entry, b: &Entry) -> bool
     ensures { result ≡ is_better a.now b.now }
 {

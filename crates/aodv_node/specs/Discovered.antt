@@ -1,5 +1,5 @@
--- What the send of a stored datum and a request of the node's own answer, and what is then seen of
--- the node.
+-- What the send of a stored datum and a request of the node's own answer, and what is seen of the
+-- node afterwards.
 use Rattle.std.specs.Prelude.{◌≡◌, ◌-◌, ◌&&◌, nat_lt, not, ℕ, Bool, true, false, None, Result, Ok, Err, List}
 use Rattle.std.specs.FinSet as sets
 use Rattle.mesh_base.specs.Meshes.{Nodes}
@@ -24,15 +24,15 @@ IsSend mesh range old d (Err sends.Idle) new out = (may_send old d ≡ false) ×
 IsSend mesh range old d (Err (sends.Full field)) new out =
     (may_send old d ≡ true) × IsFull (send_full old range d) old field new
 
--- the id comes next after one of o's that was seen
+-- the id is the next one after one of o's that was seen
 abbrev pub follows : SeenRequests → ℕ → ℕ → Bool
 follows seen o id = nat_lt 0 id && sets.contains seen (o, id - 1)
 
--- a request of the node's own may need memory: its id doesn't follow one of its own
+-- a request of the node's own may need memory if its id doesn't follow one of the node's own
 abbrev pub ask_needs_memory : Core → Bool
 ask_needs_memory core = not (follows core.seen core.ip (fresh_id core.variant core))
 
--- a request for a route to d needs memory: it may be made, and no counter is full
+-- a request for a route to d may need memory: it may be made, and no counter is full
 pub record IsAskShort (core : Core) (d : ℕ) : Type 0 where
   pub may : may_ask core d ≡ true
   pub free : ask_full core ≡ None

@@ -21,7 +21,7 @@ use Rattle.aodv_node.specs.declared.answers.TurnDone as done
 use Rattle.aodv_meaning.specs.Effects.{kind_of}
 use Rattle.aodv_node.specs.Turned.{IsReadable, needs_memory}
 
--- a turn on a message, which may find no memory
+-- a turn on a message, which may run out of memory
 abbrev pub Tries : Nodes → Core → NodeIds → Item → Result code.Effect TurnError → Core → List ℕ
     → Type 0
 Tries mesh c range i (Ok e) new out = IsMade mesh (turn_full c range i) (turn c range i) e new out
@@ -31,7 +31,7 @@ Tries mesh c range i (Err (errors.Stranger f who)) new out = ⊥
 Tries mesh c range i (Err (errors.Full field)) new out = IsFull (turn_full c range i) c field new
 Tries mesh c range i (Err errors.NoMemory) new out = (needs_memory c i ≡ true) × (new ≡ c)
 
--- the same of cores of the code: `entries` says what the entries of their tables are
+-- such a turn on cores of the code: `entries` gives the entries of their tables
 abbrev pub TakesIfRoom : {T : Type 0} → (T → Table) → Nodes → NodeIds → Item
     → cores.Core T → Result code.Effect TurnError → cores.Core T → List ℕ → Type 0
 TakesIfRoom entries mesh range item old answer new out =
@@ -56,12 +56,12 @@ IsHeard mesh c range from bytes (Err (errors.Full field)) new out =
 IsHeard mesh c range from bytes (Err errors.NoMemory) new out =
     IsReadable mesh bytes × (needs_memory c (Heard from (meaning mesh bytes)) ≡ true) × (new ≡ c)
 
--- the same answer, with the kind of the packet
+-- the answer, with the kind of the packet if the turn was done
 abbrev pub with_kind : Kind → Result code.Effect TurnError → Result (Kind × code.Effect) TurnError
 with_kind k (Ok e) = Ok (k, e)
 with_kind k (Err why) = Err why
 
--- a datum given to the node was taken: `own` is the datum where it is for the node itself
+-- a datum given to the node was taken; the option has the datum if it is for the node itself
 abbrev pub done_with : Option Body → ℕ → done.TurnDone
 done_with (Some body) dest = record {
   took = takes.Own body;

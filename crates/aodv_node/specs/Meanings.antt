@@ -1,4 +1,4 @@
--- The meaning of a message: the same over the nodes of a mesh.
+-- The meaning of a message: that message over the nodes of a mesh.
 use Rattle.std.specs.Prelude.{◌≡◌}
 use Rattle.mesh_base.specs.Meshes.{Nodes}
 use Rattle.aodv_model.specs.Cores.{Rreq, Rrep}

@@ -1,4 +1,4 @@
--- A node that is made of parts that were kept.
+-- A node that is made from parts that were kept.
 use Rattle.std.specs.Prelude.{◌≡◌, ℕ, Result, Ok, Err}
 use Rattle.std.specs.List.{AllByRecursion}
 use Rattle.mesh_base.specs.declared.events.Variant.{Variant}
@@ -11,7 +11,7 @@ use Rattle.aodv_node.specs.declared.answers.Unfit.{Unfit}
 use Rattle.aodv_node.specs.declared.answers.Unfit.TheVariants as unfits
 use Rattle.aodv_node.specs.Seen.{NodeSeen, IsItemAt}
 
--- what is seen of node `me` where these are its parts
+-- what is seen of node `me` with these parts
 abbrev pub node_of : Variant → ℕ → ℕ → TableSeen → RoomySeen → RoomyStore → Queue → NodeSeen
 node_of variant me sn table asked waiting inbox = record {
   core = record {
@@ -35,8 +35,8 @@ HasSoundCore node = IsSoundCore node.size node.core
 abbrev pub HasItemsAt : NodeSeen → Type 0
 HasItemsAt node = AllByRecursion (IsItemAt node.size (node.core).ip) node.items
 
--- what is answered where a node of these parts is wanted: the node, where its state and its items
--- are in order; else which of the two isn't, the state before the items
+-- what is answered when a node with these parts is wanted: the node, if its state and its items are
+-- in order; otherwise which of the two isn't, the state before the items
 abbrev pub IsRestored : NodeSeen → Result NodeSeen Unfit → Type 0
 IsRestored parts (Ok node) = (node ≡ parts) × HasSoundCore parts × HasItemsAt parts
 IsRestored parts (Err unfits.Core) = ¬ (HasSoundCore parts)

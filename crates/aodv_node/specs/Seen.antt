@@ -1,4 +1,4 @@
--- What is seen of a node, and what every node keeps.
+-- What is seen of a node, and what holds of every node.
 use Rattle.std.specs.Prelude.{◌≡◌, ◌≢◌, ◌<◌, ◌⊎◌, ℕ, ◌-◌, List, [], ◌∷◌, ◌++◌, refl}
 use Rattle.std.proofs.Common.{inl, inr}
 use Rattle.std.specs.Coded.{Coded, code_by, coded×, coded⊎, coded_ℕ, coded_list}
@@ -13,8 +13,8 @@ use Rattle.aodv_inbox.specs.Queues.{Queue}
 use Rattle.aodv_handlers.specs.declared.cores.Core as code
 use Rattle.aodv_handlers.specs.Shown.{core_of}
 
--- what is seen: the state of the model, the items that wait with their packets as bytes, for how
--- many more items there is room, and the number of nodes of the mesh
+-- what is seen: the state of the model, the items that wait with their packets as bytes, how many
+-- more items there is room for, and the number of nodes of the mesh
 pub record NodeSeen : Type 0 where
   pub core : Core
   pub items : List Item
@@ -35,12 +35,12 @@ abbrev pub with_queued : NodeSeen → Item → NodeSeen
 with_queued node item = record node { items = node.items ++ item ∷ []; room = node.room - 1 }
 
 -- an item that may wait at node `me` of a mesh of this size: a datum of 1 to 512 bytes for a node
--- of the mesh, or a packet from another node of the mesh. Its bytes may be any
+-- of the mesh, or a packet of any bytes from another node of the mesh
 abbrev pub IsItemAt : ℕ → ℕ → Item → Type 0
 IsItemAt size me (New dest body) = (dest < size) × IsDatum body
 IsItemAt size me (Heard from bytes) = (from < size) × (from ≢ me)
 
--- what every node keeps: it is in its mesh, its state is in order, and so are the data that wait
+-- what holds of every node: it is in its mesh, its state is in order, and so are the data that wait
 -- and the items of its inbox
 pub record IsSoundNode (node : NodeSeen) : Type 0 where
   pub mine : (node.core).ip < node.size
@@ -62,14 +62,14 @@ pub item_back : (i : Item) → item_of (item_parts i) ≡ i
 item_back (New dest body) = refl
 item_back (Heard from bytes) = refl
 
--- of items
+-- a code for items
 abbrev pub item_code : Coded Item
 item_code =
     code_by ((ℕ × List ℕ) ⊎ (ℕ × List ℕ))
     (coded⊎ (coded× coded_ℕ (coded_list coded_ℕ)) (coded× coded_ℕ (coded_list coded_ℕ))) item_parts
     item_of item_back
 
--- of what is seen of a node
+-- a code for what is seen of a node
 abbrev pub node_code : Coded NodeSeen
 node_code =
     code_by (Core × (List Item × (ℕ × ℕ)))

@@ -1,4 +1,4 @@
--- What a turn answers, and what is then seen of the node.
+-- What a turn answers, and what is seen of the node afterwards.
 use Rattle.std.specs.Prelude.{◌≡◌, ◌<◌, ◌≤◌, ◌==◌, ℕ, Bool, true, false, not, Some, None, Result, Ok, Err, List, [], ◌∷◌, ⊤}
 use Rattle.std.specs.FinSet as sets
 use Rattle.mesh_base.specs.Meshes.{Nodes}
@@ -29,7 +29,7 @@ pub record IsReadable (mesh : Nodes) (bytes : List ℕ) : Type 0 where
   pub allowed : refusal bytes ≡ None
   pub known : stranger mesh (message_in_fields bytes) ≡ None
 
--- the same of an item; a datum is nothing to be read
+-- the item is readable: a packet is if its bytes are, and a datum always is
 abbrev pub IsReadableItem : Nodes → items.Item → Type 0
 IsReadableItem mesh (item.New dest body) = ⊤
 IsReadableItem mesh (item.Heard from bytes) = IsReadable mesh bytes
@@ -40,13 +40,12 @@ HasAllRooms nodes rooms t = (d : ℕ) → d < nodes t → sets.contains (rooms t
 
 -- ---- what is taken
 
--- the bytes of a packet, or none
+-- the bytes of a packet, or none for a datum
 abbrev pub packet_of : items.Item → List ℕ
 packet_of (item.New dest body) = []
 packet_of (item.Heard from bytes) = bytes
 
--- what the model takes, with a neighbour's message as the packet that stood in the item, and its
--- kind
+-- what the model takes, with the packet of the item and its kind in place of a neighbour's message
 abbrev pub taken_of : items.Item → Took → taken.Took
 taken_of front (Own body) = takes.Own body
 taken_of front (Stored dip) = takes.Stored dip
@@ -66,7 +65,8 @@ pub record IsTaken (mesh : Nodes) (range : NodeIds) (old : NodeSeen) (d : done.T
   pub room : old.room ≤ new.room
   pub size : new.size ≡ old.size
 
--- the front item, which had these bytes from that node, was taken, and all else stayed
+-- the front item, which had these bytes from that node, was taken, and all else stayed, except the
+-- room
 pub record IsDropped (old : NodeSeen) (from : ℕ) (bytes : List ℕ) (new : NodeSeen) : Type 0 where
   pub was : old.items ≡ item.Heard from bytes ∷ new.items
   pub core : new.core ≡ old.core
@@ -91,7 +91,7 @@ needs_memory core (Heard from (Rreq m)) = true
 needs_memory core (Heard from (Rrep m)) = false
 needs_memory core (Heard from (Rerr dests)) = false
 
--- the turn on the front item needs memory
+-- the turn on the front item may need memory
 pub record IsShort (mesh : Nodes) (old : NodeSeen) : Type 0 where
   pub front : items.Item
   pub rest : List items.Item
@@ -124,8 +124,8 @@ hearing node from bytes = record node { items = item.Heard from bytes ∷ [] }
 abbrev pub heard_done : ℕ → List ℕ → Kind × Effect → done.TurnDone
 heard_done from bytes p = record { took = takes.Heard from p.0 bytes; effect = p.1 }
 
--- a turn of the node `old`, whose inbox is empty, on a packet that it hears: the turn that would
--- follow if the packet had joined the inbox. A refusal is that turn's, and changes nothing
+-- a turn of the node `old`, whose inbox is empty, on a packet as it hears it: the turn that would
+-- follow if the packet had joined the inbox. A refusal is that turn's, but changes nothing
 abbrev pub IsTurnOn : Nodes → NodeIds → NodeSeen → ℕ → List ℕ → Result (Kind × Effect) TurnError
     → NodeSeen → List ℕ → Type 0
 IsTurnOn mesh range old from bytes (Ok p) new out =

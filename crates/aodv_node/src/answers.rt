@@ -8,27 +8,27 @@ use thiserror::Error;
 pub struct TurnDone {
     /// What was taken from the inbox.
     pub took: Took,
-    /// What the node did with it, beside its new state.
+    /// What the node did with it, besides making its new state.
     pub effect: Effect,
 }
 
-/// Why a turn did nothing, or did no more than to take the item.
+/// Why a turn did nothing, or nothing but take the item.
 #[derive(Clone, Copy, Debug, PartialEq, Eq, Error)]
 pub enum TurnError {
     /// The inbox is empty.
     #[error("nothing waits")]
     Idle,
-    /// The bytes from that node encode no message. They are taken.
+    /// The bytes from that node encode no message. A turn takes them from the inbox.
     #[error("a packet that can't be read")]
     Unreadable { from: usize, why: WireError },
-    /// The message from that node names an address outside the mesh, the first in the packet's
-    /// order. It is taken.
+    /// The message from that node names an address outside the mesh; `who` is the first in the
+    /// packet's order. A turn takes the packet from the inbox.
     #[error("a packet that names a stranger")]
     Stranger { from: usize, who: Addr },
     /// The turn would raise this counter past its field's greatest value.
     #[error("a counter is full")]
     Full(Counter),
-    /// Memory was asked for and not found.
+    /// There isn't enough memory.
     #[error("no memory")]
     NoMemory,
 }
@@ -58,13 +58,14 @@ pub enum SendError {
 /// Why no request is made.
 #[derive(Clone, Copy, Debug, PartialEq, Eq, Error)]
 pub enum AskError {
-    /// No datum waits for the destination, or a route or a request is there already.
+    /// No datum waits for the destination, there is a valid route already, or a request was made
+    /// already.
     #[error("nothing to ask for")]
     Idle,
     /// The request would raise this counter past its field's greatest value.
     #[error("a counter is full")]
     Full(Counter),
-    /// Memory was asked for and not found.
+    /// There isn't enough memory.
     #[error("no memory")]
     NoMemory,
 }
@@ -80,11 +81,11 @@ impl From<NoMemory> for AskError {
     }
 }
 
-/// Why parts that were kept make no node.
+/// Why parts that were kept don't make a node.
 #[derive(Clone, Copy, Debug, PartialEq, Eq, Error)]
 pub enum Unfit {
-    /// The state isn't one that a node keeps: the number of an entry is wrong for it, its next hop
-    /// is no other node with an entry, or a precursor is outside the mesh.
+    /// The state isn't one that a node may have: the number of an entry is wrong for it, its next
+    /// hop isn't another node that has an entry, or a precursor is outside the mesh.
     #[error("a state that isn't sound")]
     Core,
     /// An item of the inbox names an index outside the mesh, or the node itself as its sender.

@@ -1,4 +1,4 @@
-//! The send of a stored datum, and a request of the node's own, each where it may be done.
+//! The send of a stored datum, and a request of the node's own, each only if it may be done.
 ghost use Rattle.std.specs.Prelude.{◌<◌, length};
 ghost use Rattle.aodv_handlers.specs.Shown.{core_of, IsInOrder};
 ghost use Rattle.aodv_node.specs.Discovered.{IsSend, IsAsk};

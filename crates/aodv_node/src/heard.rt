@@ -16,8 +16,9 @@ use aodv_table::Table;
 use aodv_wire::{RerrView, read};
 use mesh_base::{Effect, Kind, Mesh, NodeSet, Packet};
 
-/// A turn on bytes from a node. It is part of both its callers, and what it calls is part of it: as
-/// a function of its own it would clear its frame and hand its answer on through memory.
+/// A turn on bytes from a node. It is inlined into both its callers, and what it calls is inlined
+/// into it: as a function of its own it would clear its frame and hand its answer on through
+/// memory.
 #[inline(always)]
 pub(crate) fn handle<T: Table>(
     core: &mut Core<T>,

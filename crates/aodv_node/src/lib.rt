@@ -1,6 +1,7 @@
 //! One AODV router: the state of a node, and the inbox that its turns take from. Packets wait in
-//! the inbox as bytes, and are read at their turn. A call that is refused leaves the node as it
-//! was, but that a turn takes a packet which can't be read, or which names a node outside the mesh.
+//! the inbox as bytes, and are read when they are taken. A call that is refused leaves the node as
+//! it was, except that a turn still takes from the inbox a packet that can't be read or that names
+//! an address outside the mesh.
 #![tactic(auto)]
 
 mod answers;

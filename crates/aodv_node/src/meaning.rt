@@ -25,7 +25,7 @@ struct Ends {
     oip: usize,
 }
 
-// The node of an address, or the address where it is a stranger's.
+// The node of an address, or the address itself if it is a stranger.
 #[inline(always)]
 fn node_of(mesh: &Mesh, a: Addr) -> Result<usize, Addr>
     ensures { result ≡ ok_or (index_of mesh.now a.0) a }
@@ -33,7 +33,7 @@ fn node_of(mesh: &Mesh, a: Addr) -> Result<usize, Addr>
     mesh.index_of(a).ok_or(a)
 }
 
-// The nodes of both addresses, or the first that is a stranger's.
+// The nodes of both addresses, or the first of these that is a stranger.
 #[tactic(auto, unfolding(mesh_base::specs::Meshes::index_in))]
 #[inline(always)]
 fn ends_of(mesh: &Mesh, dip: Addr, oip: Addr) -> Result<Ends, Addr>
@@ -49,7 +49,7 @@ fn ends_of(mesh: &Mesh, dip: Addr, oip: Addr) -> Result<Ends, Addr>
     })
 }
 
-// The first address of a route error that is a stranger's.
+// The first address of a route error that is a stranger.
 #[tactic(auto, using(crate::proofs::Strangers::hit, crate::proofs::Strangers::miss, crate::proofs::Strangers::ended))]
 fn find_strange_pair(mesh: &Mesh, m: &RerrView<'_>) -> Option<Addr>
     ensures { result ≡ strange_pair mesh.now m.now }

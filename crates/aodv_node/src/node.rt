@@ -28,8 +28,8 @@ use mesh_base::{Bytes, Effect, Item, Kind, Mesh, NoMemory, NodeSet, Packet, Vari
 use std::alloc::Global;
 use std::marker::Model;
 
-/// One AODV router. It is used with the mesh that it was made with. Its inbox stands right before
-/// what a core asks of each packet that is heard, so that an event at a node reads few lines of the
+/// One AODV router. It is used with the mesh that it was made with. Its inbox is right before what
+/// a core is asked for each packet that is heard, so that an event at a node reads few lines of the
 /// cache.
 #[derive(Drop)]
 pub struct Node {
@@ -52,7 +52,7 @@ impl Model for Node {
 }
 
 impl Node {
-    /// Node `me` of the mesh, in its opening state, as AWN has the protocol.
+    /// Node `me` of the mesh, in its opening state, with the protocol as AWN has it.
     pub fn new(alloc: Global, mesh: &Mesh, me: usize) -> Result<Node, NoMemory>
         requires { me < length mesh.now }
         ensures core { IfOk result (λ node. node.core ≡ opening Base me (first_at mesh.now me)) }
@@ -85,9 +85,9 @@ impl Node {
         })
     }
 
-    /// Node `me` of the mesh with these parts, which were made for its size. It takes no memory,
-    /// and looks at each entry and each item once. A refusal is the first that applies of Core and
-    /// Item, and drops the parts.
+    /// Node `me` of the mesh with these parts, which were made for its size. The call takes no
+    /// memory, and goes through the entries and the items once. It is refused for the first that
+    /// applies of Core and Item; the parts are then dropped.
     pub fn from_parts(
         mesh: &Mesh,
         me: usize,
@@ -111,7 +111,7 @@ impl Node {
         if !are_items_at(&inbox, mesh.len(), me) {
             return Err(Unfit::Item);
         }
-        // It says that the data that wait are in order.
+        // This tells the prover that the data that wait are in order.
         let _dests = waiting.dests();
         let core = Core {
             me,
@@ -124,7 +124,7 @@ impl Node {
         Ok(Node { core, inbox })
     }
 
-    /// Makes room for one more item in the inbox. It asks for memory only where there is none.
+    /// Makes room for one more item in the inbox. It asks for memory only if there is no room yet.
     pub fn make_room(&mut self) -> Result<(), NoMemory>
         ensures core { self.new.core ≡ self.old.core }
         ensures items { self.new.items ≡ self.old.items }
@@ -138,7 +138,7 @@ impl Node {
         self.inbox.make_room()
     }
 
-    /// Gives the node a datum for `dest`. It joins the inbox.
+    /// Gives the node a datum for `dest`. The datum joins the inbox.
     pub fn give(&mut self, dest: usize, body: Bytes)
         requires room { 0 < self.old.room }
         requires dest { dest < self.old.size }
@@ -148,7 +148,7 @@ impl Node {
         self.inbox.push(Item::New { dest, body });
     }
 
-    /// The node hears a packet, whatever its bytes are. It joins the inbox.
+    /// The node hears a packet, whatever its bytes are. The packet joins the inbox.
     pub fn hear(&mut self, from: usize, bytes: Bytes)
         requires room { 0 < self.old.room }
         requires from { from < self.old.size }
@@ -159,9 +159,9 @@ impl Node {
     }
 
     /// Takes the front item of the inbox and does what AODV does with it; `range` has the nodes
-    /// that are in range. The packet that is cast is left in `out`. A refusal is the first that
-    /// applies of Idle, Unreadable, Stranger and Full. Memory can be short only where the item
-    /// needs some: a datum for another node, or a route request.
+    /// that are in range. The packet that is cast is left in `out`. A call is refused for the first
+    /// that applies of Idle, Unreadable, Stranger and Full. It can run out of memory only if the
+    /// item needs some: a datum for another node, or a route request.
     pub fn turn(
         &mut self,
         mesh: &Mesh,
@@ -173,14 +173,14 @@ impl Node {
         ensures me { self.new.core.ip ≡ self.old.core.ip }
         ensures size { self.new.size ≡ self.old.size }
     {
-        // It says that the table has a row for every node.
+        // This tells the prover that the table has a row for every node.
         let _nodes = self.core.table.nodes();
         take_turn(&mut self.core, &mut self.inbox, mesh, range, out)
     }
 
-    /// Takes a packet that the node hears right now, while its inbox is empty, and does what `hear`
-    /// and then `turn` do; the bytes join no inbox. It answers the packet's kind and what the node
-    /// did with it. A refusal is the one of `turn`, and changes nothing.
+    /// Takes a packet as the node hears it, while its inbox is empty, and does what `hear` and then
+    /// `turn` do, but the bytes don't join the inbox. It answers the packet's kind and what the
+    /// node did with it. A refusal is that of `turn`, but changes nothing.
     pub fn turn_on(
         &mut self,
         mesh: &Mesh,
@@ -198,13 +198,14 @@ impl Node {
         ensures others { self.new ≡ record (self.old) { core = self.new.core } }
         ensures me { self.new.core.ip ≡ self.old.core.ip }
     {
-        // It says that the table has a row for every node.
+        // This tells the prover that the table has a row for every node.
         let _nodes = self.core.table.nodes();
         handle(&mut self.core, mesh, range, from, bytes, out)
     }
 
-    /// Sends the first datum that waits for `dest` to the next hop, if there is a valid route. It
-    /// stays where the next hop isn't in `range`, and the route is gone. It takes no memory.
+    /// Sends the first datum that waits for `dest` to the next hop, if there is a valid route. If
+    /// the next hop isn't in `range`, the datum stays, and all routes by that hop become invalid.
+    /// The call takes no memory.
     pub fn send(
         &mut self,
         mesh: &Mesh,
@@ -223,8 +224,9 @@ impl Node {
     }
 
     /// Asks all neighbours for a route to `dest`, if data wait for it, there is no valid route, and
-    /// none was asked for. A refusal is the first that applies of Idle, Full and NoMemory. Memory
-    /// can be short only where the request's id doesn't follow one that was seen.
+    /// a request is still to be made. A call is refused for the first that applies of Idle, Full
+    /// and NoMemory. It can run out of memory only if the request's id doesn't follow one that was
+    /// seen.
     pub fn ask(&mut self, mesh: &Mesh, dest: usize, out: &mut Packet) -> Result<Effect, AskError>
         requires mesh { length mesh.now ≡ self.old.size }
         requires dest { dest < self.old.size }

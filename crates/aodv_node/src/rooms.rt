@@ -11,7 +11,7 @@ use aodv_handlers::Core;
 use aodv_table::Table;
 use mesh_base::NoMemory;
 
-/// Room for an entry of d.
+/// Makes room for an entry of d.
 pub(crate) fn make_row<T: Table>(core: &mut Core<T>, d: usize) -> Result<(), NoMemory>
     requires order { IsInOrder T.nodes T.entries (T.nodes core.old.table) core.old }
     requires below { d < T.nodes core.old.table }
@@ -25,7 +25,7 @@ pub(crate) fn make_row<T: Table>(core: &mut Core<T>, d: usize) -> Result<(), NoM
     core.table.make_room(d)
 }
 
-/// Room for a datum for d, unless it is the node itself.
+/// Makes room for a datum for d, unless d is the node itself.
 pub(crate) fn make_store<T: Table>(core: &mut Core<T>, d: usize) -> Result<(), NoMemory>
     requires order { IsInOrder T.nodes T.entries (T.nodes core.old.table) core.old }
     requires below { d < T.nodes core.old.table }
@@ -41,7 +41,7 @@ pub(crate) fn make_store<T: Table>(core: &mut Core<T>, d: usize) -> Result<(), N
     core.waiting.make_room(d)
 }
 
-/// Room for a request of o's.
+/// Makes room for a request of o's.
 #[inline(always)]
 pub(crate) fn make_request<T: Table>(core: &mut Core<T>, o: usize) -> Result<(), NoMemory>
     requires order { IsInOrder T.nodes T.entries (T.nodes core.old.table) core.old }
@@ -54,7 +54,7 @@ pub(crate) fn make_request<T: Table>(core: &mut Core<T>, o: usize) -> Result<(),
     core.asked.make_room(o)
 }
 
-/// Room for the node's own request of this id. None is needed where the id before it was seen.
+/// Makes room for the node's own request with this id. None is needed if the id before it was seen.
 pub(crate) fn make_own_request<T: Table>(core: &mut Core<T>, id: u32) -> Result<(), NoMemory>
     requires order { IsInOrder T.nodes T.entries (T.nodes core.old.table) core.old }
     ensures here { OnOk result ((0 < slice_index core.new.asked.rooms core.new.me)

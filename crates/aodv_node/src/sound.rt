@@ -1,4 +1,4 @@
-//! Whether parts that were kept are those of a node.
+//! Whether parts that were kept can be those of a node.
 ghost use Rattle.std.specs.Prelude.{◌<◌, ◌↔◌, IsTrue};
 ghost use Rattle.std.specs.List.{AllByRecursion};
 ghost use Rattle.aodv_inbox.specs.Queues.{IsItem};
@@ -30,7 +30,7 @@ fn are_below(set: &NodeSet, n: usize) -> bool
     set.next_from(n).is_none()
 }
 
-// Whether an entry for d of the table of node `me` is one of its mesh: its next hop is another
+// Whether an entry for d in the table of node `me` is one of its mesh: its next hop is another
 // node, which has an entry too, and its precursors are in the mesh.
 fn is_entry_in_mesh(table: &RowTable, me: usize, d: usize, e: &Entry) -> bool
     requires { d < table.now.nodes }
@@ -43,7 +43,7 @@ fn is_entry_in_mesh(table: &RowTable, me: usize, d: usize, e: &Entry) -> bool
     table.get(e.next).is_some() && are_below(&e.pre, nodes)
 }
 
-/// Whether the table is one that node `me` may have. Each entry is looked at once.
+/// Whether the table is one that node `me` may have. It goes through the entries once.
 pub(crate) fn is_sound_table(table: &RowTable, me: usize) -> bool
     ensures { IsTrue result ↔ IsSoundTable table.now.nodes me table.now.entries }
 {
@@ -58,7 +58,7 @@ pub(crate) fn is_sound_table(table: &RowTable, me: usize) -> bool
     true
 }
 
-// Whether the item may wait at node `me` of a mesh of so many nodes.
+// Whether the item may wait at node `me` of a mesh with this many nodes.
 fn is_item_at(item: &Item, nodes: usize, me: usize) -> bool
     requires { IsItem item.now }
     ensures { IsTrue result ↔ IsItemAt nodes me item.now }
@@ -69,7 +69,7 @@ fn is_item_at(item: &Item, nodes: usize, me: usize) -> bool
     }
 }
 
-/// Whether all items of the inbox may wait at node `me` of a mesh of so many nodes.
+/// Whether all items of the inbox may wait at node `me` of a mesh with this many nodes.
 pub(crate) fn are_items_at(inbox: &Inbox, nodes: usize, me: usize) -> bool
     ensures { IsTrue result ↔ AllByRecursion (IsItemAt nodes me) inbox.now.items }
 {

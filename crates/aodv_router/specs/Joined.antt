@@ -10,14 +10,15 @@ use Rattle.aodv_router.specs.declared.answers.GiveError.{GiveError}
 use Rattle.aodv_router.specs.declared.answers.GiveError.TheVariants as gives
 use Rattle.aodv_router.specs.Stations.{Station}
 
--- the item stands at the back of the inbox, and all else is as it was, but for the room that the
--- inbox has
+-- the item is at the back of the inbox, and all else is as it was, except the room that the inbox
+-- has
 pub record IsQueued (old : Station) (item : Item) (new : Station) : Type 0 where
   pub items : (new.node).items ≡ (old.node).items ++ item ∷ []
   pub core : (new.node).core ≡ (old.node).core
   pub nodes : new.nodes ≡ old.nodes
 
--- a packet of these bytes, where the node of its sender's address is `found`
+-- a packet of these bytes is heard; the option is the node of its sender's address, if the mesh has
+-- it
 abbrev pub IsHearing : Station → Option ℕ → List ℕ → Result (Unit {0}) HearError → Station → Type 0
 IsHearing old (Some i) bytes (Ok _) new =
     (i ≢ ((old.node).core).ip) × IsQueued old (Heard i bytes) new
@@ -30,11 +31,12 @@ IsHearing old None bytes (Err hears.Stranger) new = new ≡ old
 IsHearing old None bytes (Err hears.Own) new = ⊥
 IsHearing old None bytes (Err hears.NoMemory) new = ⊥
 
--- a packet from an address
+-- a packet from this address is heard
 abbrev pub IsHeardFrom : Station → ℕ → List ℕ → Result (Unit {0}) HearError → Station → Type 0
 IsHeardFrom old from bytes result new = IsHearing old (index_of old.nodes from) bytes result new
 
--- a datum of these bytes, where the node of its destination's address is `found`
+-- a datum of these bytes is given; the option is the node of its destination's address, if the mesh
+-- has it
 abbrev pub IsGiving : Station → Option ℕ → List ℕ → Result (Unit {0}) GiveError → Station → Type 0
 IsGiving old (Some i) body (Ok _) new = IsDatum body × IsQueued old (New i body) new
 IsGiving old (Some i) body (Err gives.Stranger) new = ⊥
@@ -45,6 +47,6 @@ IsGiving old None body (Err gives.Stranger) new = new ≡ old
 IsGiving old None body (Err gives.Length) new = ⊥
 IsGiving old None body (Err gives.NoMemory) new = ⊥
 
--- a datum for an address
+-- a datum for this address is given
 abbrev pub IsGivenFor : Station → ℕ → List ℕ → Result (Unit {0}) GiveError → Station → Type 0
 IsGivenFor old dest body result new = IsGiving old (index_of old.nodes dest) body result new

@@ -12,13 +12,13 @@ joined nodes a first =
     else if length nodes == MOST_NODES then Err errors.TooMany
     else Ok (with_node nodes a first)
 
--- where there is a mesh so far, what comes of it
+-- what `next` makes of the mesh so far, or why there is none
 abbrev pub joins_then : Result Nodes NewError → (Nodes → Result Nodes NewError)
     → Result Nodes NewError
 joins_then (Ok nodes) next = next nodes
 joins_then (Err why) next = Err why
 
--- the first number of an address: the router's own is given, and the others begin with 1
+-- the first number of an address: the router's own begins with the given one, and the others with 1
 abbrev pub number_for : ℕ → ℕ → ℕ → ℕ
 number_for me first a = if a == me then first else 1
 

@@ -35,7 +35,7 @@ datum_of (messages.Rrep m) = []
 datum_of (messages.Rerr pairs) = []
 datum_of (messages.Parcel p) = p.body
 
--- the same of the message in a packet's fields, unless the packet is refused
+-- the datum of the message in a packet's fields, or no bytes if the packet is refused
 abbrev pub datum_unless : Option WireError → wire.Message → List ℕ
 datum_unless None m = datum_of m
 datum_unless (Some why) m = []
@@ -71,7 +71,7 @@ named_by nodes (cast.One y) = addr_at nodes y ∷ []
 named_by nodes (cast.Many set) = addrs_of nodes set
 named_by nodes cast.All = []
 
--- the outcome tells the effect and the packet that is cast
+-- the outcome reports the effect and the packet that is cast
 pub record TellsEffect (nodes : Nodes) (e : effects.Effect) (bytes : List ℕ) (o : Outcome)
     : Type 0 where
   pub delivered : o.delivered ≡ e.deliver
@@ -81,14 +81,14 @@ pub record TellsEffect (nodes : Nodes) (e : effects.Effect) (bytes : List ℕ) (
   pub to : (o.to).items ≡ named_by nodes e.cast
   pub packet : (o.packet).items ≡ bytes
 
--- it tells a turn
+-- the outcome reports a turn
 pub record TellsTurn (nodes : Nodes) (d : done.TurnDone) (bytes : List ℕ) (o : Outcome)
     : Type 0 where
   pub took : o.took ≡ taken_in nodes d.took
   pub body : (o.body).items ≡ body_of d.took
   pub effect : TellsEffect nodes d.effect bytes o
 
--- it tells of what a node did of its own accord: nothing was taken
+-- the outcome reports what a node did of its own accord: nothing was taken
 pub record TellsAct (nodes : Nodes) (e : effects.Effect) (bytes : List ℕ) (o : Outcome)
     : Type 0 where
   pub took : o.took ≡ told.Nothing

@@ -6,7 +6,7 @@ use Rattle.aodv_router.specs.declared.outcome.Row.{Row}
 use Rattle.aodv_router.specs.declared.answers.Stranger.{Stranger}
 use Rattle.aodv_router.specs.Stations.{addrs_of}
 
--- the row tells the entry
+-- the row reports the entry
 pub record TellsEntry (nodes : Nodes) (e : entries.Entry) (row : Row) : Type 0 where
   pub dsn : row.dsn ≡ e.dsn
   pub dsk : row.dsk ≡ e.dsk
@@ -21,7 +21,8 @@ TellsRow nodes (Some e) None = ⊥
 TellsRow nodes None (Some row) = ⊥
 TellsRow nodes None None = ⊤
 
--- what is known of the node of an address that is given: P, or that the mesh has no such address
+-- the answer for an address: a value of which P holds with its node, or else that the mesh has no
+-- such address
 abbrev pub IsAnswerAt : {A : Type 0} → Option ℕ → Result A Stranger → (ℕ → A → Type 0) → Type 0
 IsAnswerAt (Some d) (Ok x) P = P d x
 IsAnswerAt (Some d) (Err _) P = ⊥

@@ -22,13 +22,13 @@ abbrev pub with_index : Option ℕ → NodeIds → NodeIds
 with_index (Some i) set = sets.insert set i
 with_index None set = set
 
--- the nodes of these addresses join the set
+-- the nodes of those of these addresses that the mesh has join the set
 unfoldable pub indices_in : Nodes → NodeIds → List ℕ → NodeIds
 indices_in nodes set [] = set
 indices_in nodes set (a ∷ rest) = indices_in nodes (with_index (index_of nodes a) set) rest
 
--- the nodes in range of a router, where these addresses are near: those that the mesh doesn't have
--- are passed over
+-- the nodes in range of a router when these addresses are near: addresses that the mesh doesn't
+-- have are skipped
 abbrev pub range_of : Station → List ℕ → NodeIds
 range_of s near = indices_in s.nodes sets.empty near
 

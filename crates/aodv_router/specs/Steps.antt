@@ -1,5 +1,5 @@
--- What a turn, a send and a request answer, and what is then seen of the router. Each is what the
--- router's node answers, in addresses.
+-- What a turn, a send and a request answer, and what is seen of the router afterwards. Each answer
+-- is that of the router's node, in addresses.
 use Rattle.std.specs.Prelude.{◌≡◌, ℕ, Option, Some, None, Result, Ok, Err, List}
 use Rattle.mesh_base.specs.Meshes.{Nodes, addr_at, index_of}
 use Rattle.mesh_base.specs.declared.events.Effect as effects
@@ -32,7 +32,7 @@ turn_error nodes (turn_errors.Stranger from who) = turn.Stranger (addr_at nodes 
 turn_error nodes (turn_errors.Full field) = turn.Full field
 turn_error nodes turn_errors.NoMemory = turn.NoMemory
 
--- the router's answer tells that of its node
+-- the router's answer is that of its node, in addresses
 abbrev pub TellsTurnAnswer : Nodes → Result done.TurnDone turns.TurnError → List ℕ
     → Result Outcome TurnError → Type 0
 TellsTurnAnswer nodes (Ok d) packet (Ok o) = TellsTurn nodes d packet o
@@ -40,7 +40,7 @@ TellsTurnAnswer nodes (Ok d) packet (Err e) = ⊥
 TellsTurnAnswer nodes (Err why) packet (Ok o) = ⊥
 TellsTurnAnswer nodes (Err why) packet (Err e) = e ≡ turn_error nodes why
 
--- a turn of the router, where these addresses are near
+-- a turn of the router when these addresses are near
 pub record IsTurnOf (old : Station) (near : List ℕ) (result : Result Outcome TurnError)
     (new : Station) : Type 0 where
   pub answer : Result done.TurnDone turns.TurnError
@@ -67,7 +67,7 @@ pub record KeepsInbox (old new : Station) : Type 0 where
   pub node : new.node ≡ record (old.node) { core = (new.node).core }
   pub nodes : new.nodes ≡ old.nodes
 
--- the send of the first datum that waits for node d, where these addresses are near
+-- the send of the first datum that waits for node d when these addresses are near
 pub record IsSendTo (old : Station) (near : List ℕ) (d : ℕ) (result : Result Outcome SendError)
     (new : Station) : Type 0 where
   pub answer : Result effects.Effect sends.SendError
@@ -80,7 +80,7 @@ abbrev pub IsSending : Station → List ℕ → Option ℕ → Result Outcome Se
 IsSending old near (Some d) result new = IsSendTo old near d result new
 IsSending old near None result new = (result ≡ Err send.Stranger) × (new ≡ old)
 
--- the same for an address
+-- the send of the first datum that waits for an address when these addresses are near
 abbrev pub IsSendOf : Station → List ℕ → ℕ → Result Outcome SendError → Station → Type 0
 IsSendOf old near dest result new = IsSending old near (index_of old.nodes dest) result new
 
@@ -111,6 +111,6 @@ abbrev pub IsAsking : Station → Option ℕ → Result Outcome AskError → Sta
 IsAsking old (Some d) result new = IsAskFor old d result new
 IsAsking old None result new = (result ≡ Err ask.Stranger) × (new ≡ old)
 
--- the same for an address
+-- a request for a route to an address
 abbrev pub IsAskOf : Station → ℕ → Result Outcome AskError → Station → Type 0
 IsAskOf old dest result new = IsAsking old (index_of old.nodes dest) result new

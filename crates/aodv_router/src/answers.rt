@@ -11,7 +11,7 @@ pub struct Stranger;
 /// Why no router is made.
 #[derive(Clone, Copy, Debug, PartialEq, Eq, Error)]
 pub enum NewError {
-    /// The first sequence number is 0, which stands for none.
+    /// The first sequence number is 0, which means none.
     #[error("the first number is 0")]
     ZeroNumber,
     /// An address is there twice.
@@ -23,7 +23,7 @@ pub enum NewError {
     /// The router's own address isn't among them.
     #[error("the router's own address is missing")]
     NotThere,
-    /// Memory was asked for and not found.
+    /// There isn't enough memory.
     #[error("no memory")]
     NoMemory,
 }
@@ -37,7 +37,7 @@ pub enum HearError {
     /// The address is the router's own.
     #[error("a router doesn't hear itself")]
     Own,
-    /// Memory was asked for and not found.
+    /// There isn't enough memory.
     #[error("no memory")]
     NoMemory,
 }
@@ -51,28 +51,28 @@ pub enum GiveError {
     /// The body is empty, or longer than 512 bytes.
     #[error("a datum has 1 to 512 bytes")]
     Length,
-    /// Memory was asked for and not found.
+    /// There isn't enough memory.
     #[error("no memory")]
     NoMemory,
 }
 
-/// Why a turn did nothing, or did no more than to take the item.
+/// Why a turn did nothing, or nothing but take the item.
 #[derive(Clone, Copy, Debug, PartialEq, Eq, Error)]
 pub enum TurnError {
     /// The inbox is empty.
     #[error("nothing waits")]
     Idle,
-    /// The bytes from that address encode no message. They are taken.
+    /// The bytes from that address encode no message. They are taken from the inbox.
     #[error("a packet that can't be read")]
     Unreadable { from: u32, why: WireError },
-    /// The message from that address names an address outside the mesh, the first in the packet's
-    /// order. It is taken.
+    /// The message from that address names an address outside the mesh; `who` is the first in the
+    /// packet's order. The packet is taken from the inbox.
     #[error("a packet that names a stranger")]
     Stranger { from: u32, who: u32 },
     /// The turn would raise this counter past its field's greatest value.
     #[error("a counter is full")]
     Full(Counter),
-    /// Memory was asked for and not found.
+    /// There isn't enough memory.
     #[error("no memory")]
     NoMemory,
 }
@@ -97,13 +97,14 @@ pub enum AskError {
     /// The mesh has no such address.
     #[error("the mesh has no such address")]
     Stranger,
-    /// No datum waits for the address, or a route or a request is there already.
+    /// No datum waits for the address, there is a valid route already, or a request was made
+    /// already.
     #[error("nothing to ask for")]
     Idle,
     /// The request would raise this counter past its field's greatest value.
     #[error("a counter is full")]
     Full(Counter),
-    /// Memory was asked for and not found.
+    /// There isn't enough memory.
     #[error("no memory")]
     NoMemory,
 }

@@ -8,13 +8,13 @@ use crate::outcome::Addrs;
 use arrayvec::ArrayVec;
 use mesh_base::{Addr, Mesh, NodeSet};
 
-/// The nodes of these addresses; those that the mesh doesn't have are passed over.
+/// The nodes of these addresses. Addresses that the mesh doesn't have are skipped.
 #[tactic(auto, unfolding(crate::specs::Stations::indices_in))]
 pub(crate) fn indices_of(mesh: &Mesh, addrs: &[u32]) -> NodeSet
     ensures { result ≡ indices_in mesh.now sets.empty addrs.now }
 {
     let mut set = NodeSet::new();
-    // There are at most 200 nodes.
+    // This tells the prover that there are at most 200 nodes.
     let _nodes = mesh.len();
     for a in addrs {
         if let Some(i) = mesh.index_of(Addr(*a)) {

@@ -12,7 +12,7 @@ pub type Body = ArrayVec<u8, LONGEST_DATUM>;
 /// What was taken from the inbox.
 #[derive(Clone, Copy, Debug, PartialEq, Eq)]
 pub enum Taken {
-    /// Nothing: a datum that waited was sent, or a request made.
+    /// Nothing: the outcome is that of a send or a request.
     Nothing,
     /// A datum for the router itself.
     Own,
@@ -35,25 +35,25 @@ pub enum Casting {
     All,
 }
 
-/// What a turn, a send or a request has done, beside the router's new state. The packet is to be
-/// cast as it stands.
+/// What a turn, a send or a request has done, besides changing the router's state. The packet is to
+/// be cast as it is.
 #[derive(Drop)]
 pub struct Outcome {
     /// What was taken from the inbox.
     pub took: Taken,
     /// The datum in `body` has come to its destination, which is this router.
     pub delivered: bool,
-    /// A datum was dropped. Where a turn took it, it is the one in `body`.
+    /// A datum was dropped. If a turn took it, it is the one in `body`.
     pub lost: bool,
-    /// The next hop that a unicast would not have reached, since it isn't near.
+    /// The next hop that a unicast couldn't reach, since it isn't near.
     pub broken: Option<u32>,
     /// To whom the packet goes.
     pub cast: Casting,
-    /// The neighbours that it goes to, where they are named: the one, or the many.
+    /// The neighbours to which the packet goes, if they are named: the one, or the many.
     pub to: Addrs,
     /// The packet, or no bytes.
     pub packet: Packet,
-    /// The datum that was taken, unless it waits now; or no bytes.
+    /// The datum that was taken; no bytes if none was taken, or if it now waits.
     pub body: Body,
 }
 
@@ -66,7 +66,7 @@ pub struct Row {
     pub dsk: Known,
     /// Whether the route is valid.
     pub flag: Flag,
-    /// The number of hops to the destination, from 1 on.
+    /// The number of hops to the destination, at least 1.
     pub hops: u8,
     /// The next hop towards the destination.
     pub next: u32,

@@ -1,4 +1,4 @@
-//! What is read of a router. None of these changes it.
+//! What can be read of a router. None of these calls changes it.
 ghost use Rattle.std.specs.Prelude.{◌≡◌, ◌↔◌, [], length, IsTrue};
 ghost use Rattle.std.specs.FinMap as maps;
 ghost use Rattle.std.specs.FinSet as sets;
@@ -52,7 +52,7 @@ impl Router {
         self.node.inbox().len()
     }
 
-    /// The number of nodes of the mesh, with the router itself.
+    /// The number of nodes of the mesh, including the router itself.
     pub fn nodes(&self) -> usize
         ensures value { result ≡ length self.now.nodes }
         ensures mesh { IsMesh self.now.nodes }
@@ -67,7 +67,7 @@ impl Router {
         addr(&self.mesh, self.me)
     }
 
-    /// The router's own sequence number. Its state is in order, whatever was heard.
+    /// The router's own sequence number. The router's state is in order, whatever it has heard.
     pub fn sn(&self) -> u32
         ensures value { result ≡ self.now.node.core.sn }
         ensures sound { IsSoundNode self.now.node }
@@ -101,7 +101,7 @@ impl Router {
     }
 
     /// Whether the request of an originator with this id was seen. In the variant `Number` requests
-    /// are told apart by their originator's number, which stands here for the id.
+    /// are told apart by their originator's number, which is given here in place of the id.
     pub fn has_seen(&self, originator: u32, id: u32) -> Result<bool, Stranger>
         ensures { IsAnswerAt (index_of self.now.nodes originator) result (λ o seen.
             seen ≡ sets.contains self.now.node.core.seen (o, id)) }

@@ -43,9 +43,9 @@ impl Router {
     #[tactic(auto, using(crate::proofs::Numbers::opened_at))]
     /// A router in its opening state: it has no routes, and nothing waits. The mesh has exactly
     /// these addresses, each of them once and at most 200. `me` is the router's own, and `first`
-    /// its first sequence number: a router that begins again has to begin above the last that it
-    /// had. A refusal is the first that applies: of ZeroNumber, then of Twice and TooMany at the
-    /// first address that can't join those before it, then of NotThere.
+    /// its first sequence number: a router that restarts has to begin above the last number that it
+    /// had. A call is refused for the first reason that applies: ZeroNumber, then Twice or TooMany
+    /// at the first address that can't join those before it, then NotThere.
     pub fn new(
         alloc: Global,
         addrs: &[u32],
@@ -74,8 +74,8 @@ impl Router {
         }
     }
 
-    /// A packet that a neighbour has cast joins the inbox, whatever its bytes are. They are read at
-    /// their turn.
+    /// A packet that a neighbour has cast joins the inbox, whatever its bytes are. They are read
+    /// when the packet is taken.
     pub fn hear(&mut self, alloc: Global, from: u32, bytes: &[u8]) -> Result<(), HearError>
         ensures hear { IsHeardFrom self.old from bytes.now result self.new }
         ensures refused { OnErr result (self.new ≡ self.old) }
@@ -96,8 +96,8 @@ impl Router {
         Ok(())
     }
 
-    /// A datum for an address joins the inbox. A refusal is the first that applies of Stranger and
-    /// Length.
+    /// A datum for an address joins the inbox. A call is refused for the first that applies of
+    /// Stranger and Length.
     pub fn give(&mut self, alloc: Global, dest: u32, body: &[u8]) -> Result<(), GiveError>
         ensures give { IsGivenFor self.old dest body.now result self.new }
         ensures refused { OnErr result (self.new ≡ self.old) }
@@ -118,16 +118,18 @@ impl Router {
         Ok(())
     }
 
-    /// Takes the front item of the inbox, and does what AODV does with it, where these addresses
-    /// are near: a unicast to another fails. Those that the mesh doesn't have are passed over. A
-    /// refusal is the first that applies of Idle, Unreadable, Stranger and Full. Memory can be
-    /// short only where the item needs some: a datum for another node, or a route request.
+    /// Takes the front item of the inbox, and does what AODV does with it. `near` has the addresses
+    /// in range now: a unicast to any other fails. Addresses that the mesh doesn't have are
+    /// skipped. A call is refused for the first that applies of Idle, Unreadable, Stranger and
+    /// Full. It can run out of memory only if the item needs some: a datum for another node, or a
+    /// route request.
     pub fn turn(&mut self, near: &[u32]) -> Result<Outcome, TurnError>
         ensures turn { IsTurnOf self.old near.now result self.new }
         ensures names { IfOk result (λ o. NamesTheMesh self.old.nodes o) }
         ensures me { self.new.node.core.ip ≡ self.old.node.core.ip }
     {
-        // What is read of a node is in order, and its mesh has distinct addresses.
+        // This tells the prover that the node is in order, and that its mesh has distinct
+        // addresses.
         let _number = self.node.sn();
         let _nodes = self.mesh.len();
         let range = indices_of(&self.mesh, near);
@@ -137,15 +139,16 @@ impl Router {
     }
 
     /// Sends the first datum that waits for an address to the next hop, if there is a valid route.
-    /// It stays where the next hop isn't near, and the route is gone. It takes no memory. A refusal
-    /// is the first that applies of Stranger, Idle and Full.
+    /// If the next hop isn't near, the datum stays, and all routes by that hop become invalid. The
+    /// call takes no memory. It is refused for the first that applies of Stranger, Idle and Full.
     pub fn send(&mut self, near: &[u32], dest: u32) -> Result<Outcome, SendError>
         ensures send { IsSendOf self.old near.now dest result self.new }
         ensures names { IfOk result (λ o. NamesTheMesh self.old.nodes o) }
         ensures refused { OnErr result (self.new ≡ self.old) }
         ensures me { self.new.node.core.ip ≡ self.old.node.core.ip }
     {
-        // What is read of a node is in order, and its mesh has distinct addresses.
+        // This tells the prover that the node is in order, and that its mesh has distinct
+        // addresses.
         let _number = self.node.sn();
         let _nodes = self.mesh.len();
         let Some(d) = self.mesh.index_of(Addr(dest)) else {
@@ -158,15 +161,17 @@ impl Router {
     }
 
     /// Asks all neighbours for a route to an address, if data wait for it, there is no valid route,
-    /// and none was asked for. A refusal is the first that applies of Stranger, Idle, Full and
-    /// NoMemory. Memory can be short only where the request's id doesn't follow one that was seen.
+    /// and a request is still to be made. A call is refused for the first that applies of Stranger,
+    /// Idle, Full and NoMemory. It can run out of memory only if the request's id doesn't follow
+    /// one that was seen.
     pub fn ask(&mut self, dest: u32) -> Result<Outcome, AskError>
         ensures ask { IsAskOf self.old dest result self.new }
         ensures names { IfOk result (λ o. NamesTheMesh self.old.nodes o) }
         ensures refused { OnErr result (self.new ≡ self.old) }
         ensures me { self.new.node.core.ip ≡ self.old.node.core.ip }
     {
-        // What is read of a node is in order, and its mesh has distinct addresses.
+        // This tells the prover that the node is in order, and that its mesh has distinct
+        // addresses.
         let _number = self.node.sn();
         let _nodes = self.mesh.len();
         let Some(d) = self.mesh.index_of(Addr(dest)) else {

@@ -139,7 +139,7 @@ fn act_outcome(mesh: &Mesh, effect: &Effect, packet: Packet) -> Outcome
 
 // ---- answers
 
-// Why a turn did nothing.
+// Why a turn was refused.
 fn turn_error(mesh: &Mesh, why: aodv_node::TurnError) -> TurnError
     ensures { result ≡ turn_error mesh.now why }
 {
@@ -206,7 +206,7 @@ pub(crate) fn tell_ask(
 
 // ---- entries
 
-/// An entry of the table.
+/// An entry of the table, in addresses.
 pub(crate) fn tell_entry(mesh: &Mesh, e: &Entry) -> Row
     ensures { TellsEntry mesh.now e.now result }
 {

@@ -1,4 +1,4 @@
--- What the calls of a table say, beside the changes that aodv_model defines.
+-- What the calls of a table report, besides the changes that aodv_model defines.
 use Rattle.std.specs.Prelude.{◌≡◌, ◌<◌, ◌≤◌, ℕ, zero, suc, ◌+◌, ◌==◌, Bool, true, false, not, ◌&&◌, Option, Some, None}
 use Rattle.std.specs.List.{list_any}
 use Rattle.std.specs.FinMap as maps
@@ -18,7 +18,7 @@ abbrev pub with_entry : Table → ℕ → Option Entry → Table
 with_entry rt d None = maps.remove rt d
 with_entry rt d (Some e) = maps.insert rt d e
 
--- the nodes of a mesh of n
+-- the nodes of a mesh with n nodes
 unfoldable pub nodes_below : ℕ → NodeIds
 nodes_below zero = sets.empty
 nodes_below (suc n) = sets.insert (nodes_below n) n
@@ -32,7 +32,7 @@ unfoldable pub valid_dests : Table → NodeIds
 valid_dests rt = dests_of (maps.retain_keys rt (in_vD rt))
 
 -- there is an entry of d, and it is that of a neighbour that was heard: valid, its number unknown,
--- one hop away, by d itself
+-- one hop away by d itself
 abbrev pub is_neighbour_entry : ℕ → Option Entry → Bool
 is_neighbour_entry d None = false
 is_neighbour_entry d (Some e) =
@@ -50,7 +50,7 @@ dests_by rt y = dests_of (maps.retain_keys rt (λ d. goes_by (maps.get rt d) y))
 abbrev pub is_past : Dests → Bool
 is_past raised = list_any (λ n. n == greatest + 1) (maps.values raised)
 
--- some number was raised past the greatest, and d is the least destination of such a one
+-- some number was raised past the greatest, and d is the least destination with such a number
 pub record IsLeastPast (raised : Dests) (d : ℕ) : Type 0 where
   pub past : is_past raised ≡ true
   pub here : maps.get raised d ≡ Some (greatest + 1)

@@ -9,7 +9,7 @@ use Rattle.aodv_model.specs.declared.entry.Entry.{Entry}
 use Rattle.aodv_model.specs.Tables.{Table}
 use Rattle.aodv_table.specs.Calls.{with_entry, valid_dests, is_neighbour_in}
 
--- the table that rows show, of which the first is the row of node d
+-- the table of the rows, the first of which is the row of node d
 unfoldable pub entries_from : ℕ → List (Option Entry) → Table
 entries_from d [] = maps.empty
 entries_from d (row ∷ rows) = with_entry (entries_from (d + 1) rows) d row
@@ -18,8 +18,8 @@ entries_from d (row ∷ rows) = with_entry (entries_from (d + 1) rows) d row
 abbrev pub AreNeighbours : Table → NodeIds → Type 0
 AreNeighbours rt nodes = (d : ℕ) → sets.contains nodes d ≡ is_neighbour_in rt d
 
--- what such a table keeps: a number of nodes that a mesh may have, a row for each of them, the set
--- of the valid destinations, and that of the neighbours that were heard
+-- what holds of such a table: it has a number of nodes that a mesh may have, a row for each of
+-- them, the set of the valid destinations, and that of the neighbours that were heard
 pub record AreIndexed (nodes : ℕ) (rows : List (Option Entry)) (valid neighbours : NodeIds)
     : Type 0 where
   pub few : nodes ≤ MOST_NODES

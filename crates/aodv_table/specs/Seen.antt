@@ -13,7 +13,7 @@ pub record TableSeen : Type 0 where
   pub rooms : NodeIds
   pub nodes : ℕ
 
--- a table of no entries
+-- a table without entries
 abbrev pub without_entries : NodeIds → ℕ → TableSeen
 without_entries rooms nodes = record { entries = maps.empty; rooms = rooms; nodes = nodes }
 

@@ -1,5 +1,5 @@
-//! What becomes of an entry where another comes for the same destination, what an entry is found
-//! by, and the sets that its destination is marked in.
+//! What becomes of an entry when another comes for the same destination, the tests by which entries
+//! are found, and the sets that their destinations are kept in.
 ghost use Rattle.std.specs.Prelude.{◌≡◌, ◌<◌, ◌↔◌, if◌then◌else◌, false, Some, None};
 ghost use Rattle.std.specs.FinSet as sets;
 ghost use Rattle.aodv_model.specs.Tables.{entry_after, goes_by, is_valid_in};
@@ -34,7 +34,7 @@ pub(crate) fn entry_after(before: Option<Entry>, r: Entry) -> Entry
     Entry { pre, ..s }
 }
 
-/// Whether the entry is other than before.
+/// Whether the entry differs from the one before.
 pub(crate) fn is_changed(before: &Option<Entry>, after: &Entry) -> bool
     ensures { (result ≡ false) ↔ (before.now ≡ Some after.now) }
 {
@@ -44,7 +44,7 @@ pub(crate) fn is_changed(before: &Option<Entry>, after: &Entry) -> bool
     }
 }
 
-/// The entry of a destination, where it is valid and has that next hop.
+/// The entry of a destination, if it is valid and has that next hop.
 pub(crate) fn entry_by(entry: Option<Entry>, next: usize) -> Option<Entry>
     ensures { result ≡ (if goes_by entry next then entry else None) }
 {
@@ -54,7 +54,7 @@ pub(crate) fn entry_by(entry: Option<Entry>, next: usize) -> Option<Entry>
     }
 }
 
-/// Whether d is valid, as its row says.
+/// Adds d to the valid destinations or removes it from them, as its row says.
 pub(crate) fn mark_valid(valid: &mut NodeSet, d: usize, row: &Option<Entry>)
     requires { d < 256 }
     ensures { valid.new
@@ -76,7 +76,7 @@ pub(crate) fn is_neighbour_entry(d: usize, entry: &Option<Entry>) -> bool
     }
 }
 
-/// Whether d is a neighbour that was heard, as its row says.
+/// Adds d to the neighbours that were heard or removes it from them, as its row says.
 pub(crate) fn mark_neighbour(neighbours: &mut NodeSet, d: usize, row: &Option<Entry>)
     requires { d < 256 }
     ensures { neighbours.new ≡ (if is_neighbour_entry d row.now

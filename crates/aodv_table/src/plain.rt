@@ -15,7 +15,7 @@ use std::collections::BTreeMap;
 use std::marker::Model;
 
 /// A table over an ordered map. A destination with room has a row, which holds its entry or none,
-/// so that an entry comes and goes without memory.
+/// so that adding or removing an entry takes no memory.
 #[derive(Drop)]
 pub struct PlainTable {
     nodes: usize,
@@ -51,7 +51,7 @@ fn entry_at(rows: &BTreeMap<usize, Option<Entry>>, d: usize) -> Option<Entry>
     }
 }
 
-// Writes the row of d, which is there.
+// Writes the row of d, which has to be there.
 fn write_row(rows: &mut BTreeMap<usize, Option<Entry>>, d: usize, row: Option<Entry>)
     requires { sets.contains (rooms_in rows.old.entries) d ≡ true }
     ensures entries { entries_in rows.new.entries ≡ with_entry (entries_in rows.old.entries) d row }
@@ -81,8 +81,8 @@ fn add_row(rows: &mut BTreeMap<usize, Option<Entry>>, d: usize) -> Result<(), No
 }
 
 impl PlainTable {
-    /// A table of no entries and no room, for a mesh of so many nodes. It takes no memory, but
-    /// keeps the allocator from which room is made.
+    /// A table without entries and without room, for a mesh with this many nodes. The call takes no
+    /// memory; the table keeps the allocator with which room is made.
     pub fn new(alloc: Global, nodes: usize) -> PlainTable
         requires { nodes ≤ MOST_NODES }
         ensures { result ≡ without_entries sets.empty nodes }

@@ -5,9 +5,9 @@ use aodv_model::{Entry, Flag, Known};
 use mesh_base::NodeSet;
 use std::marker::Model;
 
-/// A row, seen as the entry that it holds, or none. Whether it holds one is kept where the fields
-/// of an entry leave a byte: an `Option` would take a word more in each row. The other fields of a
-/// row without an entry say nothing.
+/// A row, seen as the entry that it holds, or none. Whether it holds one is kept in a byte that the
+/// fields of an entry leave free: an `Option` would take a word more in each row. In a row without
+/// an entry the other fields mean nothing.
 #[derive(Drop)]
 pub(crate) struct Row {
     dsn: u32,
@@ -40,7 +40,7 @@ impl Model for Row {
 }
 
 impl Row {
-    /// A row with that entry, or with none.
+    /// A row with this entry, or with none.
     #[inline(always)]
     pub fn new(entry: Option<Entry>) -> Row
         ensures { result ≡ entry }

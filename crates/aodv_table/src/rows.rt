@@ -15,8 +15,8 @@ use std::marker::Model;
 
 /// A table with a row for every node of the mesh, made once. A row holds the entry of its node, or
 /// none. So an entry is read and written at its index, with no search and no memory. Whether a node
-/// is a neighbour that was heard is asked for each packet, and the rows are many: so these are a
-/// set of their own.
+/// is a neighbour that was heard is asked for each packet, and the rows are many: so these
+/// neighbours are kept as a set of their own.
 #[derive(Drop)]
 pub struct RowTable {
     neighbours: NodeSet,
@@ -44,7 +44,8 @@ impl Model for RowTable {
 }
 
 impl RowTable {
-    /// A table of no entries, with room for an entry of every node of a mesh of so many.
+    /// A table without entries, with room for an entry of every node of a mesh with this many
+    /// nodes.
     pub fn new(alloc: Global, nodes: usize) -> Result<RowTable, NoMemory>
         requires { nodes ≤ MOST_NODES }
         ensures { IfOk result (λ t. t ≡ without_entries (nodes_below nodes) nodes) }

@@ -15,8 +15,9 @@ use mesh_base::{MOST_NODES, NoMemory, NodeSet};
 /// mesh.
 ///
 /// A destination gets room for an entry by `make_room`, and keeps it. No other call takes memory. A
-/// table says how it reads and writes one entry and knows a neighbour that was heard, and keeps the
-/// set of its valid destinations. What AWN does with tables stands here, over these.
+/// kind of table says how it reads and writes one entry, and how it knows a neighbour that was
+/// heard, and keeps the set of its valid destinations. What AWN does with tables is defined here,
+/// by means of these.
 pub trait Table: Drop {
     /// The entries, by destination.
     ghost entries: { Self → Entries };
@@ -44,7 +45,7 @@ pub trait Table: Drop {
         requires { d < nodes self.now }
         ensures { result ≡ sets.contains (rooms self.now) d };
 
-    /// Makes room for an entry of d. It asks for memory only where there is none.
+    /// Makes room for an entry of d. It asks for memory only if there is no room yet.
     fn make_room(&mut self, d: usize) -> Result<(), NoMemory>
         requires { d < nodes self.old }
         ensures here { OnOk result (sets.contains (rooms self.new) d ≡ true) }
@@ -55,7 +56,7 @@ pub trait Table: Drop {
         ensures entries { entries self.new ≡ entries self.old }
         ensures nodes { nodes self.new ≡ nodes self.old };
 
-    /// Makes e the entry of d, or takes its entry away. What d had before is gone.
+    /// Makes e the entry of d, or removes d's entry. What d had before isn't kept.
     fn put(&mut self, d: usize, e: Option<Entry>)
         requires below { d < nodes self.old }
         requires room { sets.contains (rooms self.old) d ≡ true }
@@ -63,8 +64,8 @@ pub trait Table: Drop {
         ensures rooms { rooms self.new ≡ rooms self.old }
         ensures nodes { nodes self.new ≡ nodes self.old };
 
-    /// Takes r, a valid entry, for the destination d (AWN's update), and answers whether the
-    /// entries changed. It is part of its callers, which know most of r.
+    /// Takes r, a valid entry, for the destination d (AWN's update), and returns whether the
+    /// entries changed. It is inlined into its callers, which know most of r.
     #[inline(always)]
     fn update(&mut self, d: usize, r: Entry) -> bool
         requires below { d < nodes self.old }
@@ -123,8 +124,8 @@ pub trait Table: Drop {
         ensures { result ≡ valid_dests (entries self.now) };
 
     /// Whether d's entry is that of a neighbour that was heard: valid, one hop away by d itself,
-    /// and its number unknown, whatever that number and its precursors are. A table that keeps the
-    /// set of these neighbours looks at no entry.
+    /// and with its number marked as unknown, whatever that number and its precursors are. A table
+    /// that keeps the set of these neighbours looks at no entry.
     fn is_neighbour(&self, d: usize) -> bool
         requires { d < nodes self.now }
         ensures { result ≡ is_neighbour_in (entries self.now) d };
@@ -148,9 +149,10 @@ pub trait Table: Drop {
         found
     }
 
-    /// The destinations that have a valid entry with that next hop, each with its number raised:
-    /// they take the place of what `out` held. Or the least of them whose number is the greatest
-    /// and can't be raised; what `out` holds is then left open. All valid entries are looked at.
+    /// Puts into `out`, in place of what it held, the destinations that have a valid entry with
+    /// that next hop, each with its number raised. The error is the least of them whose number is
+    /// the greatest and can't be raised; what `out` then holds is left open. All valid entries are
+    /// looked at, up to that one.
     fn dests_via(&self, next: usize, out: &mut Dests) -> Result<(), usize>
         ensures { let raised = unreachable_by (entries self.now) next in
             MatchResult result

@@ -9,7 +9,7 @@ use Rattle.mesh_base.specs.Members.{NodeIds}
 use Rattle.aodv_model.specs.Cores.{Body, Waiting, Store, has_data}
 use Rattle.aodv_model.specs.Soundness.{IsDatum}
 
--- the data for each node, the one that came first at the head
+-- the data for each node, with the one that came first at the head
 abbrev pub Rows : Type 0
 Rows = List (List Body)
 
@@ -33,11 +33,11 @@ store_from needing i [] = maps.empty
 store_from needing i (row ∷ rows) =
     with_waiting (store_from needing (i + 1) rows) i (waiting_of (sets.contains needing i) row)
 
--- the store that the rows show, with a request needed for the marked destinations
+-- the store of the rows, with a request needed for the marked destinations
 unfoldable pub store_of : NodeIds → Rows → Store
 store_of needing rows = store_from needing 0 rows
 
--- what is seen of what waits for one destination: its data, and for how many more there is room
+-- what is seen of what waits for one destination: its data, and how many more there is room for
 pub record RoomyRow : Type 0 where
   pub bodies : List Body
   pub room : ℕ
@@ -48,13 +48,14 @@ bodies_in_row row = row.bodies
 abbrev pub room_in_row : RoomyRow → ℕ
 room_in_row row = row.room
 
--- no data, and no room, unless there are slots
+-- what is seen of a row: no data and no room, unless there are slots
 abbrev pub row_of : {Z : Type 0} → Option (Box RoomyRow Z) → RoomyRow
 row_of None = record { bodies = []; room = 0 }
 row_of (Some slots) = slots.value
 
--- what the rows and the two sets keep: no more rows than a mesh has nodes; the destinations with
--- data; only such need a request; each datum has its size
+-- what holds of the rows and the two sets: there are no more rows than a mesh may have nodes;
+-- `with_data` has the destinations with data; only such need a request; each datum has 1 to 512
+-- bytes
 pub record AreRows (rows : Rows) (with_data needing : NodeIds) : Type 0 where
   pub few : length rows ≤ MOST_NODES
   pub data_are : (d : ℕ) → sets.contains with_data d ≡ has_data (bodies_at rows d)

@@ -5,7 +5,7 @@ use Rattle.std.specs.FinMap as maps
 use Rattle.aodv_model.specs.Cores.{Store}
 use Rattle.aodv_model.specs.Codes.{waiting_code}
 
--- the store, and for each node of the mesh for how many more data for it there is room
+-- the store, and how many more data for each node of the mesh there is room for
 pub record RoomyStore : Type 0 where
   pub store : Store
   pub rooms : List ℕ

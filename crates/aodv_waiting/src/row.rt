@@ -10,12 +10,12 @@ use std::marker::Model;
 /// Slots for the data of one destination.
 #[derive(Drop)]
 struct Slots {
-    // Those behind the first.
+    // The data after the first.
     rest: VecDeque<Bytes>,
-    // Room for one more was made. Other free slots aren't promised to anyone.
+    // Whether room for one more was made. Other free slots aren't promised to anyone.
     roomy: bool,
     // Most destinations that have data have one datum, which takes no memory of its own. Whether
-    // there is one stands beside what else is asked of slots, in one line of the cache.
+    // there is one is kept next to what else is asked of slots, in one line of the cache.
     first: Option<Bytes>,
 }
 
@@ -31,8 +31,8 @@ impl Model for Slots {
     ghost invariant = { λ p. AreSlots p.first p.rest p.roomy };
 }
 
-/// The data for one destination, the one that came first at the front. It takes memory only while
-/// there are data, or room was made for one.
+/// The data for one destination, with the one that came first at the front. It takes memory only
+/// while there are data, or while there is room that was made for one.
 #[derive(Drop)]
 pub(crate) struct Row {
     slots: Option<Box<Slots>>,
@@ -48,8 +48,8 @@ impl Model for Row {
     ghost view = { λ r. row_of r.slots };
 }
 
-// Room for one more datum. A full ring doubles, so that many data take time in proportion to their
-// number.
+// Makes room for one more datum. A full ring doubles, so that many data take time in proportion to
+// their number.
 fn make_room_in(ring: &mut VecDeque<Bytes>) -> Result<(), NoMemory>
     ensures items { ring.new.items ≡ ring.old.items }
     ensures here { OnOk result (deque_len ring.new < deque_capacity ring.new) }
@@ -67,7 +67,7 @@ fn make_room_in(ring: &mut VecDeque<Bytes>) -> Result<(), NoMemory>
 }
 
 impl Slots {
-    // Room for one datum.
+    // Slots without data, with room for one datum.
     fn new(alloc: Global) -> Slots
         ensures bodies { result.bodies ≡ [] }
         ensures room { result.room ≡ 1 }
@@ -173,7 +173,7 @@ impl Row {
         Ok(())
     }
 
-    /// Puts a datum behind the others. It uses up the room for one.
+    /// Adds a datum after the others. It uses up the room for one.
     pub(crate) fn push(&mut self, body: Bytes)
         requires { 0 < self.old.room }
         ensures bodies { self.new.bodies ≡ self.old.bodies ++ body ∷ [] }
@@ -185,8 +185,8 @@ impl Row {
         }
     }
 
-    /// Takes the datum in front away, and answers whether none is left. Then the memory is given
-    /// back, where none of it is promised.
+    /// Removes the datum in front, and returns whether none is left. If none is, the memory is
+    /// given back, unless some of it is promised.
     pub(crate) fn pop(&mut self) -> bool
         ensures bodies { self.new.bodies ≡ drop 1 self.old.bodies }
         ensures empty { IsTrue result ↔ (self.new.bodies ≡ []) }
@@ -215,7 +215,7 @@ impl Row {
         }
     }
 
-    /// The k-th datum from the front, counted from 0, if there are so many.
+    /// The k-th datum from the front, counted from 0, if there is one.
     pub(crate) fn get(&self, k: usize) -> Option<&Bytes>
         ensures some { IsSome result ↔ (k < length self.now.bodies) }
         ensures body { IfSome result (λ b. b.now ≡ slice_index_or self.now.bodies k b.now) }

@@ -41,7 +41,7 @@ impl Model for Waiting {
     ghost invariant = { λ a. AreRows (map bodies_in_row a.rows.items) a.with_data a.needing };
 }
 
-// A destination without data before needs a request.
+// Marks d as in need of a request, if it had no data before.
 fn mark_if_new(needing: &mut NodeSet, with_data: &NodeSet, d: usize)
     requires { d < 256 }
     ensures { needing.new
@@ -52,7 +52,7 @@ fn mark_if_new(needing: &mut NodeSet, with_data: &NodeSet, d: usize)
     }
 }
 
-// A destination with data needs a request.
+// Marks d as in need of a request, if it has data.
 fn mark_if_waiting(needing: &mut NodeSet, with_data: &NodeSet, d: usize)
     ensures { needing.new
         ≡ (if sets.contains with_data.now d then sets.insert needing.old d else needing.old) }
@@ -63,7 +63,7 @@ fn mark_if_waiting(needing: &mut NodeSet, with_data: &NodeSet, d: usize)
 }
 
 impl Waiting {
-    /// A store without data, for a mesh with so many nodes.
+    /// A store without data, for a mesh with this many nodes.
     pub fn new(alloc: Global, nodes: usize) -> Result<Waiting, NoMemory>
         requires { nodes ≤ MOST_NODES }
         ensures store { IfOk result (λ waiting. waiting.store ≡ maps.empty) }
@@ -81,7 +81,7 @@ impl Waiting {
         })
     }
 
-    /// Makes room for one more datum for d. It asks for memory only where there is none.
+    /// Makes room for one more datum for d. It asks for memory only if there is no room yet.
     pub fn make_room(&mut self, d: usize) -> Result<(), NoMemory>
         requires { d < length self.old.rooms }
         ensures store { self.new.store ≡ self.old.store }
@@ -96,8 +96,8 @@ impl Waiting {
         row.make_room(self.alloc)
     }
 
-    /// The datum waits for d, behind those that are there. A destination that had none needs a
-    /// request. It uses up the room for one datum.
+    /// The datum waits for d, after those that already do. A destination that had none needs a
+    /// request. The call uses up the room for one datum.
     pub fn add(&mut self, d: usize, body: Bytes)
         requires room { 0 < slice_index self.old.rooms d }
         requires datum { IsDatum body }
@@ -132,7 +132,7 @@ impl Waiting {
         }
     }
 
-    /// Takes the first datum for d away.
+    /// Removes the first datum for d.
     pub fn drop_first(&mut self, d: usize)
         requires { IsTrue (in_qD self.old.store d) }
         ensures store { self.new.store ≡ drop self.old.store d }
@@ -153,7 +153,7 @@ impl Waiting {
         self.needing.has(d)
     }
 
-    /// Those destinations of `dests` that have data need a request.
+    /// Marks those destinations of `dests` that have data as in need of a request.
     pub fn set_req(&mut self, dests: &Dests)
         ensures store { self.new.store ≡ set self.old.store dests.now }
         ensures rooms { self.new.rooms ≡ self.old.rooms }
@@ -164,7 +164,7 @@ impl Waiting {
         }
     }
 
-    /// d needs no request for now.
+    /// Marks d as in no need of a request for now.
     pub fn unset_req(&mut self, d: usize)
         requires { d < length self.old.rooms }
         ensures store { self.new.store ≡ unset self.old.store d }

@@ -1,5 +1,5 @@
 -- Part of what the headline says.
--- A data packet: three lines and a body of 1 to 512 bytes. RFC 3561 has none; this layout is this
+-- A data packet: three lines and a body of 1 to 512 bytes. RFC 3561 has none; the layout is this
 -- project's own.
 use Rattle.std.specs.Prelude.{ℕ, ◌==◌, not, nat_lt, List, [], ◌∷◌, ◌++◌, length, drop, Option}
 use Rattle.mesh_base.specs.declared.addr.Addr.{Addr}
@@ -35,7 +35,7 @@ fields = Kind ∷ Zero ∷ DestinationAddress ∷ OriginatorAddress ∷ []
 abbrev pub value_in : List ℕ → Field → ℕ
 value_in b f = number_at b (table f)
 
--- the datum that stands in the fields, and in all bytes behind them
+-- the datum in the fields, and in all bytes after them
 abbrev pub datum : List ℕ → Datum
 datum b = record {
   dip = record { 0 = value_in b DestinationAddress };
@@ -43,7 +43,7 @@ datum b = record {
   body = drop 12 b;
 }
 
--- why bytes of this type encode no datum: the first line that applies
+-- why bytes of this type encode no datum: the first of these that applies
 abbrev pub refusal : List ℕ → Option WireError
 refusal b = first_of (
     -- three lines, and a body of 1 to 512 bytes

@@ -1,5 +1,5 @@
 -- Part of what the headline says.
--- Which bytes encode which message, why others encode none, and what is written of a message.
+-- Which bytes encode which message, why others encode none, and what is written for a message.
 use Rattle.std.specs.Prelude.{◌≡◌, ℕ, ◌==◌, Bool, if◌then◌else◌, List, length, Option, Some, None}
 use Rattle.aodv_wire.specs.declared.error.WireError.{WireError}
 use Rattle.aodv_wire.specs.declared.error.WireError.TheVariants.{Short, UnknownType}
@@ -15,7 +15,7 @@ use Rattle.aodv_wire.specs.DataPacket as data_packet
 abbrev pub kind : List ℕ → ℕ
 kind b = number_at b (field_at 0 0 8)
 
--- the packet is a datum's
+-- the packet's type is that of a data packet
 abbrev pub is_data : List ℕ → Bool
 is_data b = kind b == data_packet.type_number
 
@@ -29,7 +29,7 @@ refusal b =
     else if kind b == data_packet.type_number then data_packet.refusal b
     else Some (UnknownType (kind b))
 
--- the message that stands in the fields of the packet's type, whether or not it is refused
+-- the message in the fields of the packet's type, whether or not it is refused
 unfoldable pub message_in_fields : List ℕ → Message
 message_in_fields b =
     if kind b == rreq.type_number then Rreq (rreq.request b)
@@ -37,12 +37,12 @@ message_in_fields b =
     else if kind b == rerr.type_number then Rerr (rerr.destinations b)
     else Parcel (data_packet.datum b)
 
--- the bytes encode the message: no refusal applies, and it stands in their fields
+-- the bytes encode the message: no refusal applies, and the message is in their fields
 pub record Encodes (b : List ℕ) (m : Message) : Type 0 where
   pub allowed : refusal b ≡ None
   pub stands : message_in_fields b ≡ m
 
--- the one encoding that is written of a message
+-- the one encoding that is written for a message
 unfoldable pub encoding : Message → List ℕ
 encoding (Rreq m) = rreq.bytes_of m
 encoding (Rrep m) = rrep.bytes_of m

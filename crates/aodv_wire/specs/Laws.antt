@@ -25,7 +25,7 @@ EncodesOne = (b : List ℕ) (m n : Message) → Encodes b m → Encodes b n → 
 abbrev pub AreDistinct : List Addr → Type 0
 AreDistinct xs = AllPairs (λ s t. s ≢ t) xs
 
--- a is one of those before it, and those are distinct
+-- a is in the list and also among the addresses before it there, and those are distinct
 pub record IsFirstRepeated (xs : List Addr) (a : Addr) : Type 0 where
   pub before : List Addr
   pub after : List Addr
@@ -33,13 +33,13 @@ pub record IsFirstRepeated (xs : List Addr) (a : Addr) : Type 0 where
   pub earlier : Contains before a
   pub distinct : AreDistinct before
 
--- the address that a refusal names is the first one that stands earlier too
+-- the address that a refusal names is the first that repeats an earlier one
 abbrev pub RepeatedIsFirst : Type 0
 RepeatedIsFirst =
     (ps : List (Addr × ℕ)) (a : Addr) → rerr.repeated_address ps ≡ Some a
     → IsFirstRepeated (rerr.addresses ps) a
 
--- where none is named, no two are the same
+-- if none is named, no two are the same
 abbrev pub OthersAreDistinct : Type 0
 OthersAreDistinct =
     (ps : List (Addr × ℕ)) → rerr.repeated_address ps ≡ None → AreDistinct (rerr.addresses ps)

@@ -4,7 +4,7 @@
 use Rattle.std.specs.Prelude.{ℕ, zero, suc, ◌+◌, ◌-◌, ◌*◌, ◌/◌, ◌%◌, ◌^◌, ◌==◌, Bool, ◌&&◌, if◌then◌else◌, nat_le, List, [], ◌∷◌, ◌++◌}
 use Rattle.byteorder.specs.Endian.{big_from, big_bytes}
 
--- where a field stands: its line, its first bit in that line, and how many bits it has
+-- where a field is: its line, its first bit in that line, and how many bits it has
 pub record FieldBits : Type 0 where
   pub line : ℕ
   pub bit : ℕ
@@ -13,7 +13,7 @@ pub record FieldBits : Type 0 where
 abbrev pub field_at : ℕ → ℕ → ℕ → FieldBits
 field_at line bit bits = record { line = line; bit = bit; bits = bits }
 
--- what the last bit of a field counts in its line
+-- what the last bit of a field is worth in its line
 abbrev pub unit : FieldBits → ℕ
 unit p = 2 ^ (32 - (p.bit + p.bits))
 
@@ -27,7 +27,7 @@ line_of table value line [] = 0
 line_of table value line (f ∷ fs) =
     (if (table f).line == line then value f * unit (table f) else 0) + line_of table value line fs
 
--- the bytes of so many lines, from this one on
+-- the bytes of n lines, from this one on
 abbrev pub lines_from : {F : Type 0} → (F → FieldBits) → (F → ℕ) → List F → ℕ → ℕ → List ℕ
 lines_from table value fs line zero = []
 lines_from table value fs line (suc n) =
@@ -37,8 +37,8 @@ lines_from table value fs line (suc n) =
 abbrev pub laid_out : {F : Type 0} → (F → FieldBits) → (F → ℕ) → List F → ℕ → List ℕ
 laid_out table value fs n = lines_from table value fs 0 n
 
--- a table is whole: its fields stand one after the other from bit `from` to bit `to`, none across
--- the end of a line
+-- a table is whole: its fields follow one another from bit `from` to bit `to`, none across the end
+-- of a line
 abbrev pub is_whole : {F : Type 0} → (F → FieldBits) → List F → ℕ → ℕ → Bool
 is_whole table [] from to = from == to
 is_whole table (f ∷ fs) from to =

@@ -5,11 +5,11 @@ pub mod Layout
 pub mod Refused
 -- RFC 3561 section 5.1: the table of a request, what it says, its refusals, what is written
 pub mod RouteRequest
--- the same of a reply, section 5.2
+-- the same for a reply, section 5.2
 pub mod RouteReply
--- the same of an error, section 5.3
+-- the same for an error, section 5.3
 pub mod RouteError
--- the same of a data packet
+-- the same for a data packet
 pub mod DataPacket
 -- which bytes encode which message
 pub mod Encodes

@@ -3,7 +3,7 @@
 use Rattle.std.specs.Prelude.{Bool, true, false, List, [], ◌∷◌, Option, Some, None}
 use Rattle.aodv_wire.specs.declared.error.WireError.{WireError}
 
--- a refusal, where this holds
+-- a refusal, if this holds
 abbrev pub refuse_if : Bool → WireError → Option WireError
 refuse_if true e = Some e
 refuse_if false e = None

@@ -59,7 +59,7 @@ pairs (suc n) b = pair b ∷ pairs n (drop 8 b)
 abbrev pub destinations : List ℕ → List (Addr × ℕ)
 destinations b = pairs (value_in b DestCount) (drop 4 b)
 
--- the first of these addresses that stands among those before it, or among these
+-- the first address of the second list that is also in the first list or earlier in the second
 abbrev pub first_repeated : List Addr → List Addr → Option Addr
 first_repeated before [] = None
 first_repeated before (a ∷ after) =
@@ -72,7 +72,7 @@ addresses ps = map (λ p. p.0) ps
 abbrev pub repeated_address : List (Addr × ℕ) → Option Addr
 repeated_address ps = first_repeated [] (addresses ps)
 
--- why bytes of this type encode no route error: the first line that applies
+-- why bytes of this type encode no route error: the first of these that applies
 abbrev pub refusal : List ℕ → Option WireError
 refusal b = first_of (
     -- 5.3: one line, and two for each of DestCount destinations
@@ -82,11 +82,11 @@ refusal b = first_of (
     ∷ refuse_if (value_in b N == 1) OutsideProfile
     -- 5.3: DestCount is at least 1
     ∷ refuse_if (value_in b DestCount == 0) NoDestinations
-    -- its destinations are a map: no address has two numbers
+    -- its destinations are a map: no address is there twice
     ∷ option_map Repeated (repeated_address (destinations b))
     ∷ [])
 
--- writing: each field's value, of a route error of n destinations
+-- writing: each field's value, in a route error with n destinations
 abbrev pub value : ℕ → Field → ℕ
 value n Kind = type_number
 value n DestCount = n
@@ -108,7 +108,7 @@ IsRising [] = Unit {0}
 IsRising (p ∷ []) = Unit {0}
 IsRising (p ∷ q ∷ ps) = (p.0.0 < q.0.0) × IsRising (q ∷ ps)
 
--- what can be written: 1 to 200 destinations, by rising address
+-- what can be written: 1 to 200 destinations, in rising order of their addresses
 pub record AreDestinations (ps : List (Addr × ℕ)) : Type 0 where
   pub some : 1 ≤ length ps
   pub few : length ps ≤ MOST_NODES

@@ -37,7 +37,7 @@ fields =
 abbrev pub value_in : List ℕ → Field → ℕ
 value_in b f = number_at b (table f)
 
--- the reply that stands in the fields, reserved bits and lifetime aside
+-- the reply in the fields; reserved bits and the lifetime are ignored
 abbrev pub reply : List ℕ → Rrep
 reply b = record {
   hops = value_in b HopCount;
@@ -46,7 +46,7 @@ reply b = record {
   oip = record { 0 = value_in b OriginatorAddress };
 }
 
--- why bytes of this type encode no reply: the first line that applies
+-- why bytes of this type encode no reply: the first of these that applies
 abbrev pub refusal : List ℕ → Option WireError
 refusal b = first_of (
     -- 5.2: five lines

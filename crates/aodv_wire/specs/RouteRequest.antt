@@ -41,7 +41,7 @@ fields =
 abbrev pub value_in : List ℕ → Field → ℕ
 value_in b f = number_at b (table f)
 
--- the request that stands in the fields, reserved bits aside
+-- the request in the fields; reserved bits are ignored
 abbrev pub request : List ℕ → Rreq
 request b = record {
   hops = value_in b HopCount;
@@ -53,7 +53,7 @@ request b = record {
   osn = value_in b OriginatorNumber;
 }
 
--- why bytes of this type encode no request: the first line that applies
+-- why bytes of this type encode no request: the first of these that applies
 abbrev pub refusal : List ℕ → Option WireError
 refusal b = first_of (
     -- 5.1: six lines

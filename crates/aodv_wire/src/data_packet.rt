@@ -1,4 +1,4 @@
-//! This project's packet of a datum. Its view borrows the packet that it was read from.
+//! This project's packet that carries a datum. Its view borrows the packet that it was read from.
 ghost use Rattle.std.specs.Prelude.{◌≡◌, ◌<◌, ◌≤◌, length, Some, MatchResult};
 ghost use Rattle.aodv_wire.specs.Encodes.{Encodes, is_data, refusal, encoding};
 ghost use Rattle.aodv_wire.specs.Encodes as packets;
@@ -10,10 +10,10 @@ use crate::message::Message;
 use mesh_base::{Addr, LONGEST_DATUM, Packet};
 use std::marker::Model;
 
-/// Its type.
+/// The type of a data packet.
 pub(crate) const DATA: u8 = 16;
 
-// The bytes before the datum.
+// The number of bytes before the datum.
 const HEAD: usize = 12;
 
 /// A datum on its way, with its destination and its originator.
@@ -61,14 +61,14 @@ impl<'a> DataView<'a> {
     }
 }
 
-/// Whether the packet is a datum's.
+/// Whether the packet's type is that of a data packet.
 pub fn is_data(packet: &[u8]) -> bool
     ensures { result ≡ is_data packet.now }
 {
     !packet.is_empty() && packet[0] == DATA
 }
 
-/// Reads a packet of that type.
+/// Reads a packet of this type.
 #[tactic(auto, unfolding(crate::specs::Encodes::refusal, crate::specs::Encodes::message_in_fields))]
 pub(crate) fn read_data(bytes: &[u8]) -> Result<Message<'_>, WireError>
     requires some { 0 < length bytes.now }

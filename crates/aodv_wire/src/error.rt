@@ -1,4 +1,4 @@
-//! Why bytes are no packet.
+//! Why bytes encode no message.
 use mesh_base::Addr;
 use thiserror::Error;
 
@@ -8,23 +8,23 @@ pub enum WireError {
     /// There is no byte.
     #[error("no byte")]
     Short,
-    /// The first byte is no type that is read here.
+    /// The first byte is not a type that is read here.
     #[error("unknown type {0}")]
     UnknownType(u8),
-    /// The type doesn't have this length.
+    /// A packet of this type doesn't have this length.
     #[error("wrong length for its type")]
     WrongLength,
-    /// A flag or a prefix size stands for a part of RFC 3561 that isn't run here.
+    /// A flag or a prefix size asks for a part of RFC 3561 that isn't supported here.
     #[error("a flag or a prefix size outside this profile")]
     OutsideProfile,
-    /// A sequence number that is at least 1 is 0.
+    /// A sequence number that has to be at least 1 is 0.
     #[error("sequence number 0")]
     ZeroNumber,
     /// A route error names no destination.
     #[error("no destination")]
     NoDestinations,
-    /// A route error names a destination twice: the first, in the order of its pairs, that an
-    /// earlier pair has too.
+    /// A route error names a destination twice: this one, the first in the order of its pairs that
+    /// an earlier pair has too.
     #[error("a destination named twice")]
     Repeated(Addr),
     /// One of a data packet's bytes 1 to 3 isn't 0.

@@ -11,7 +11,8 @@ pub(crate) fn line_at(bytes: &[u8], line: usize) -> u32
     requires { 4 * line + 4 ≤ length bytes.now }
     ensures { result ≡ number_at bytes.now (field_at line 0 32) }
 {
-    // It says that there are fewer than 2^64 bytes, so their indices are numbers of a usize.
+    // This tells the prover that there are fewer than 2^64 bytes, so that their indices fit a
+    // usize.
     let _len = bytes.len();
     let (_, rest) = bytes.split_at(4 * line);
     BigEndian::read_u32(rest)
@@ -33,7 +34,7 @@ pub(crate) fn last_octet(bytes: &[u8]) -> u8
     bytes[3]
 }
 
-/// Puts bytes behind what is written.
+/// Appends bytes to what is written.
 pub(crate) fn put_bytes(out: &mut Packet, bytes: &[u8])
     requires { length out.old.items + length bytes.now ≤ LONGEST_PACKET }
     ensures { out.new.items ≡ out.old.items ++ bytes.now }
@@ -43,7 +44,7 @@ pub(crate) fn put_bytes(out: &mut Packet, bytes: &[u8])
     }
 }
 
-/// Puts the first line: a type, its flags, eight bits that are 0, and eight more.
+/// Appends the first line: a type, its flags, eight bits that are 0, and eight more.
 pub(crate) fn put_first_line(out: &mut Packet, kind: u8, flags: u8, last: u8)
     requires { length out.old.items + 4 ≤ LONGEST_PACKET }
     ensures bytes { out.new.items ≡ out.old.items ++ kind ∷ flags ∷ 0 ∷ last ∷ [] }
@@ -52,7 +53,7 @@ pub(crate) fn put_first_line(out: &mut Packet, kind: u8, flags: u8, last: u8)
     put_bytes(out, &[kind, flags, 0, last]);
 }
 
-/// Puts a number as a line.
+/// Appends a number as a line.
 pub(crate) fn put_line(out: &mut Packet, number: u32)
     requires { length out.old.items + 4 ≤ LONGEST_PACKET }
     ensures bytes { out.new.items ≡ out.old.items ++ big_bytes 4 number }

@@ -11,8 +11,8 @@ pub fn one_message()
     ensures { EncodesOne }
 {}
 
-/// The address of a refusal is the first that stands earlier too; where no address is refused, they
-/// are distinct.
+/// The address that a refusal names is the first that repeats an earlier one; if no address is
+/// refused, all are distinct.
 pub fn repeated_is_first()
     ensures some { RepeatedIsFirst }
     ensures none { OthersAreDistinct }

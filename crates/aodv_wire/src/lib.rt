@@ -1,6 +1,6 @@
 //! The packets of AODV as bytes: route requests, replies and errors as RFC 3561 section 5 lays them
-//! out, and this project's own data packet. The reader takes any bytes, and each writer leaves the
-//! one encoding of its message that its reader gives back.
+//! out, and this project's own data packet. The reader takes any bytes. Each writer writes the one
+//! encoding of its message, from which the reader gets that message back.
 #![tactic(auto)]
 
 mod data_packet;

@@ -11,12 +11,12 @@ use crate::route_error::{ERROR, read_rerr};
 use crate::route_reply::{REPLY, read_rrep};
 use crate::route_request::{REQUEST, read_rreq};
 
-/// The message that the bytes encode, or the first reason why they encode none. Any bytes may come.
+/// The message that the bytes encode, or the first reason why they encode none. Any bytes will do.
 #[tactic(auto, unfolding(crate::specs::Encodes::refusal))]
 #[inline(always)]
 pub fn read(bytes: &[u8]) -> Result<Message<'_>, WireError>
     ensures exact { MatchResult result (Encodes bytes.now) (λ e. refusal bytes.now ≡ Some e) }
-    // whatever message the bytes encode, that one is the answer
+    // if the bytes encode a message, that one is the answer
     ensures only { (m : a_message) → Encodes bytes.now m → result ≡ Ok m }
 {
     if bytes.is_empty() {

@@ -12,10 +12,10 @@ use crate::message::Message;
 use mesh_base::{Addr, Packet};
 use std::marker::Model;
 
-/// Its type.
+/// The type of a route error.
 pub(crate) const ERROR: u8 = 3;
 
-// The bytes before the pairs, and those of a pair.
+// The number of bytes before the pairs, and of those in a pair.
 const FIRST_LINE: usize = 4;
 
 const PAIR: usize = 8;
@@ -60,7 +60,7 @@ impl RerrView<'_> {
         ensures { slice_get self.now k ≡ Some result }
     {
         let lines = self.lines;
-        // It says that the lines have fewer than 2^64 bytes.
+        // This tells the prover that the lines have fewer than 2^64 bytes.
         let _len = lines.len();
         (Addr(line_at(lines, 2 * k)), line_at(lines, 2 * k + 1))
     }
@@ -72,7 +72,7 @@ impl RerrView<'_> {
         ensures { slice_get (addresses self.now) k ≡ Some result }
     {
         let lines = self.lines;
-        // It says that the lines have fewer than 2^64 bytes.
+        // This tells the prover that the lines have fewer than 2^64 bytes.
         let _len = lines.len();
         Addr(line_at(lines, 2 * k))
     }
@@ -91,7 +91,7 @@ impl RerrView<'_> {
     }
 
     // The first address that an earlier pair has too. An address above all earlier ones isn't
-    // sought among them, so pairs in rising order are read once.
+    // looked for among them, so pairs in rising order are read once.
     pub(crate) fn repeated_address(&self) -> Option<Addr>
         ensures { result ≡ repeated_address self.now }
     {
@@ -109,7 +109,7 @@ impl RerrView<'_> {
     }
 }
 
-/// Reads a packet of that type.
+/// Reads a packet of this type.
 #[tactic(auto, unfolding(crate::specs::Encodes::refusal, crate::specs::Encodes::message_in_fields))]
 pub(crate) fn read_rerr(bytes: &[u8]) -> Result<Message<'_>, WireError>
     requires some { 0 < length bytes.now }
@@ -138,7 +138,8 @@ pub(crate) fn read_rerr(bytes: &[u8]) -> Result<Message<'_>, WireError>
     }
 }
 
-/// Writes a route error in place of what `out` held: RFC 3561 section 5.3. The addresses rise.
+/// Writes a route error in place of what `out` held: RFC 3561 section 5.3. The 1 to 200 addresses
+/// are in rising order.
 pub fn write_rerr(pairs: &[(Addr, u32)], out: &mut Packet)
     requires { AreDestinations pairs.now }
     ensures written { out.new.items ≡ encoding (a_rerr pairs.now) }

@@ -9,10 +9,10 @@ use crate::field::{last_octet, line_at, put_first_line, put_line};
 use crate::message::Message;
 use mesh_base::{Addr, Packet};
 
-/// Its type.
+/// The type of a route reply.
 pub(crate) const REPLY: u8 = 2;
 
-// Its length in bytes.
+// The length of a route reply in bytes.
 const LENGTH: usize = 20;
 
 // The flags that this profile leaves out: R and A.
@@ -24,8 +24,8 @@ const PREFIX_SIZE: u8 = 0x1f;
 // The lifetime that is written, in milliseconds: the longest.
 const LIFETIME: u32 = u32::MAX;
 
-/// A route reply: RFC 3561 section 5.2. `dip` is the destination that was asked for, with its
-/// number `dsn`, and `oip` who asked.
+/// A route reply: RFC 3561 section 5.2. `dip` is the destination that was asked for, `dsn` its
+/// number, and `oip` the address that asked.
 #[derive(Clone, Copy, Debug, PartialEq, Eq)]
 pub struct Rrep {
     pub hops: u8,
@@ -34,7 +34,7 @@ pub struct Rrep {
     pub oip: Addr,
 }
 
-/// Reads a packet of that type.
+/// Reads a packet of this type.
 #[tactic(auto, unfolding(crate::specs::Encodes::refusal, crate::specs::Encodes::message_in_fields))]
 pub(crate) fn read_rrep(bytes: &[u8]) -> Result<Message<'_>, WireError>
     requires some { 0 < length bytes.now }

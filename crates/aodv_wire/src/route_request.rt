@@ -9,10 +9,10 @@ use crate::field::{last_octet, line_at, put_first_line, put_line};
 use crate::message::Message;
 use mesh_base::{Addr, Packet};
 
-/// Its type.
+/// The type of a route request.
 pub(crate) const REQUEST: u8 = 1;
 
-// Its length in bytes.
+// The length of a route request in bytes.
 const LENGTH: usize = 24;
 
 // The flags that this profile leaves out: J, R, G and D.
@@ -29,13 +29,13 @@ pub struct Rreq {
     pub id: u32,
     pub dip: Addr,
     pub dsn: u32,
-    /// Whether the destination's number is known. It may be other than 0 all the same.
+    /// Whether the destination's number is known. Even if it isn't, `dsn` may be other than 0.
     pub known: bool,
     pub oip: Addr,
     pub osn: u32,
 }
 
-/// Reads a packet of that type.
+/// Reads a packet of this type.
 #[tactic(auto, unfolding(crate::specs::Encodes::refusal, crate::specs::Encodes::message_in_fields))]
 pub(crate) fn read_rreq(bytes: &[u8]) -> Result<Message<'_>, WireError>
     requires some { 0 < length bytes.now }

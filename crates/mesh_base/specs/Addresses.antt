@@ -17,7 +17,7 @@ address_from others = None
 unfoldable pub address_of : List ℕ → Option ℕ
 address_of bytes = address_from (parts 46 bytes)
 
--- an address as it is written
+-- the written form of an address
 abbrev pub dotted_decimal : ℕ → List ℕ
 dotted_decimal a =
     decimal (a / 16777216) ++ 46 ∷ decimal (a / 65536 % 256) ++ 46 ∷ decimal (a / 256 % 256)

@@ -10,7 +10,7 @@ abbrev pub bytes_of : Kept → List ℕ
 bytes_of (Short few) = inline_bytes few
 bytes_of (Long many) = many.items
 
--- room for so many bytes: up to 32 need no memory
+-- room for this many bytes: up to 32 need no memory
 abbrev pub IsRoomFor : ℕ → Option (Vec ℕ) → Type 0
 IsRoomFor most None = most ≤ 32
 IsRoomFor most (Some v) = (v.items ≡ []) × (most ≤ vec_capacity v)

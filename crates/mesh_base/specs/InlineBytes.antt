@@ -1,4 +1,4 @@
--- A few bytes, the first of an array.
+-- A few bytes: the first of an array.
 use Rattle.std.specs.Prelude.{ℕ, List, take}
 use Rattle.mesh_base.specs.declared.few.InlineBytes.{InlineBytes}
 

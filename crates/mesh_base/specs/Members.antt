@@ -10,7 +10,7 @@ use Rattle.std.specs.FinSet.{FinSet, empty, insert, contains}
 abbrev pub NodeIds : Type 0
 NodeIds = FinSet nat_cmp
 
--- the number whose digits are the words
+-- the number whose digits to the base 2 ^ 64 are the words
 abbrev pub number_of : List ℕ → ℕ
 number_of [] = 0
 number_of (w ∷ ws) = number_of ws * 2 ^ 64 + w
@@ -39,20 +39,20 @@ pub record AreWords (ws : List ℕ) : Type 0 where
   pub four : length ws ≡ 4
   pub fit : (i : ℕ) → slice_index ws i < 2 ^ 64
 
--- the members of a set that are below n, by rising index
+-- the members of a set that are below n, in ascending order
 unfoldable pub members_below : ℕ → NodeIds → List ℕ
 members_below zero s = []
 members_below (suc n) s = if contains s n then members_below n s ++ n ∷ [] else members_below n s
 
--- all members of a set, by rising index
+-- all members of a set, in ascending order
 abbrev pub member_list : NodeIds → List ℕ
 member_list s = members_below 256 s
 
--- each member of the first set is one of the second
+-- each member of the first set is a member of the second
 abbrev pub AreAmong : NodeIds → NodeIds → Type 0
 AreAmong s t = (q : ℕ) → contains s q ≡ true → contains t q ≡ true
 
--- the rank of a member: how many members are below it
+-- the rank of a node: how many members are below it
 abbrev pub rank : NodeIds → ℕ → ℕ
 rank s i = length (members_below i s)
 
@@ -68,6 +68,6 @@ IsLeastBit w i None = (q : ℕ) → i ≤ q → bit_at w q ≡ 0
 IsLeastBit w i (Some m) =
     (i ≤ m) × (m < 64) × (bit_at w m ≡ 1) × ((q : ℕ) → i ≤ q → q < m → bit_at w q ≡ 0)
 
--- the word has a bit at that index, and k bits below it
+-- the word has a bit at this index, and k bits below it
 abbrev pub IsNthBit : ℕ → ℕ → ℕ → Type 0
 IsNthBit w k index = (index < 64) × (bit_at w index ≡ 1) × (count_ones (w % 2 ^ index) ≡ k)

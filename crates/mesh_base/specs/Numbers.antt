@@ -1,5 +1,5 @@
 -- Part of what the headline says.
--- A number as decimal digits denote it: no sign, no leading zero, no space.
+-- Numbers as decimal digits denote them: no sign, no leading zero, no space.
 use Rattle.std.specs.Prelude.{ℕ, zero, suc, ◌+◌, ◌-◌, ◌*◌, ◌==◌, Bool, true, false, ◌&&◌, not, List, [], ◌∷◌, Option, Some, None, nat_le, if◌then◌else◌}
 use Rattle.std.specs.Str.{all_ascii_digits}
 
@@ -14,12 +14,12 @@ is_canonical [] = false
 is_canonical (d ∷ []) = true
 is_canonical (d ∷ e ∷ ds) = not (d == 48)
 
--- the number that digits stand for, where it is at most this
+-- the number that digits stand for, if it is at most this
 unfoldable pub digits_up_to : ℕ → List ℕ → Option ℕ
 digits_up_to most ds =
     if all_ascii_digits ds && nat_le (read_on 0 ds) most then Some (read_on 0 ds) else None
 
--- the number that a text denotes, where it is at most this
+-- the number that a text denotes, if it is at most this
 unfoldable pub number_up_to : ℕ → List ℕ → Option ℕ
 number_up_to most bytes = if is_canonical bytes then digits_up_to most bytes else None
 

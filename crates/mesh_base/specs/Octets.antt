@@ -14,6 +14,6 @@ first_octet (last ∷ []) = None
 first_octet (first ∷ next ∷ others) =
     option_map (number_and (next ∷ others)) (number_up_to 255 first)
 
--- a dot stands at this index
+-- there is a dot at this index
 abbrev pub IsDotAt : List ℕ → ℕ → Type 0
 IsDotAt text at = (at < length text) × (slice_index text at ≡ 46)

@@ -5,11 +5,11 @@ use Rattle.std.specs.Prelude.{ℕ, ◌==◌, List, [], Option, Some, None}
 use Rattle.std.specs.Borrow.{Bor}
 use Rattle.std.specs.List.{slice_split}
 
--- the parts between the bytes that are sep: one more than there are such bytes
+-- the parts between the bytes that equal sep: one more than there are such bytes
 abbrev pub parts : ℕ → List ℕ → List (List ℕ)
 parts sep bytes = slice_split (λ b. b == sep) bytes
 
--- the parts of what stands after a separator, if there is one
+-- the parts of what comes after a separator, if there is one
 abbrev pub rest_parts : ℕ → Option (Bor (List ℕ)) → List (List ℕ)
 rest_parts sep None = []
 rest_parts sep (Some rest) = parts sep rest.now

@@ -1,4 +1,4 @@
--- The first three numbers of an address, as they are kept written.
+-- The first three numbers of an address, kept in their written form.
 use Rattle.std.specs.Prelude.{◌≡◌, ◌<◌, ◌≤◌, ◌^◌, ℕ, ◌/◌, ◌%◌, List, [], ◌∷◌, ◌++◌, take}
 use Rattle.std.specs.Fmt.{decimal}
 
@@ -8,7 +8,7 @@ stem_of high =
     decimal (high / 65536) ++ 46 ∷ decimal (high / 256 % 256) ++ 46 ∷ decimal (high % 256)
     ++ 46 ∷ []
 
--- they are an address's, and the first cells of a chunk, so many of them
+-- the first three numbers of an address are the first `width` cells of a chunk
 pub record IsStem (high : ℕ) (cells : List ℕ) (width : ℕ) : Type 0 where
   pub text : take width cells ≡ stem_of high
   pub some : 6 ≤ width

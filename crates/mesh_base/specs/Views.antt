@@ -1,4 +1,4 @@
--- What is only looked at.
+-- Copies in flight that are only looked at.
 use Rattle.mesh_base.specs.declared.events.Flying.{Flying}
 use Rattle.mesh_base.specs.declared.events.FlyingView.{FlyingView}
 

@@ -7,7 +7,7 @@ ghost use Rattle.mesh_base.specs.Parts.{parts};
 ghost use Rattle.mesh_base.specs.Addresses.{address_of};
 ghost use Rattle.mesh_base.specs.Octets.{first_octet, IsDotAt};
 
-/// The address of a node: its four numbers, the first the highest.
+/// The address of a node: its four numbers, the first in the highest byte.
 #[derive(Clone, Copy, Debug, Default, PartialEq, Eq, PartialOrd, Ord)]
 pub struct Addr(pub u32);
 
@@ -23,7 +23,7 @@ fn digit(b: u8) -> Option<u32>
     Some(u32::from(b - b'0'))
 }
 
-// One of the four numbers, of one, two or three digits.
+// One of the four numbers, from one, two or three bytes.
 
 #[inline(always)]
 fn of_one(a: u8) -> Option<u32>
@@ -79,7 +79,7 @@ pub(crate) fn octet(text: &[u8]) -> Option<u32>
     }
 }
 
-// Whether a dot stands at an index.
+// Whether there is a dot at an index.
 #[inline(always)]
 fn is_dot(text: &[u8], at: usize) -> bool
     ensures yes { IsTrue result → IsDotAt text.now at }
@@ -88,7 +88,7 @@ fn is_dot(text: &[u8], at: usize) -> bool
     at < text.len() && text[at] == b'.'
 }
 
-// The number before the first dot, and what stands after the dot.
+// The number before the first dot, and the bytes after the dot.
 #[inline(always)]
 fn octet_and_rest(text: &[u8]) -> Option<(u32, &[u8])>
     ensures value { option_map (λ r. (r.0, parts 46 r.1.now)) result
@@ -108,7 +108,7 @@ fn octet_and_rest(text: &[u8]) -> Option<(u32, &[u8])>
 }
 
 impl Addr {
-    /// Reads four numbers from 0 to 255 without leading zeros, joined by dots. None is any other
+    /// Reads four numbers from 0 to 255 without leading zeros, joined by dots. None for any other
     /// text.
     pub fn parse(text: &[u8]) -> Option<Addr>
         ensures { option_map (λ a. a.0) result ≡ address_of text.now }

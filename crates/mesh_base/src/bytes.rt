@@ -5,7 +5,7 @@ use crate::few::InlineBytes;
 use std::alloc::{AllocError, AllocFailed, Global};
 use std::marker::Model;
 
-/// Memory was asked for and not found.
+/// Out of memory: an allocation failed.
 #[derive(Clone, Copy, Debug, PartialEq, Eq)]
 pub struct NoMemory;
 
@@ -21,7 +21,7 @@ impl<T: Drop> From<AllocFailed<T>> for NoMemory {
     }
 }
 
-/// An owned list of bytes. It takes no memory for up to 32 bytes.
+/// An owned list of bytes. Up to 32 bytes can be kept without taking memory.
 #[derive(Drop)]
 pub struct Bytes {
     kept: Kept,
@@ -57,7 +57,7 @@ impl Bytes {
         }
     }
 
-    /// A copy of b that takes no memory. None where b is too long for that.
+    /// A copy of b that takes no memory. None if b is too long for that.
     pub fn short(b: &[u8]) -> Option<Bytes>
         ensures value { IfSome result (λ s. s ≡ b.now) }
         ensures when { IsSome result ↔ (length b.now ≤ 32) }
@@ -70,8 +70,8 @@ impl Bytes {
         }
     }
 
-    /// An equal list that takes no memory. None where it is longer than 32 bytes. Where these bytes
-    /// are short they are copied whole, without a look at how many they are.
+    /// An equal list that takes no memory. None if it is longer than 32 bytes. Bytes that are kept
+    /// in the list itself are copied with their whole array, however many they are.
     #[inline]
     pub fn again(&self) -> Option<Bytes>
         ensures value { IfSome result (λ s. s ≡ self.now) }
@@ -94,7 +94,7 @@ impl Bytes {
         }
     }
 
-    /// No byte.
+    /// An empty list.
     pub fn empty() -> Bytes
         ensures { result ≡ [] }
     {
@@ -126,7 +126,7 @@ impl Bytes {
 /// Memory for one list of bytes, seen as the number of bytes that fit.
 #[derive(Drop)]
 pub struct Room {
-    // None where `Bytes` needs no memory for so many.
+    // None if `Bytes` needs no memory for that many bytes.
     items: Option<Vec<u8>>,
     most: usize,
 }

@@ -1,6 +1,6 @@
-//! Events of a mesh, what waits at nodes and in flight, and what a step did.
+//! Events of a mesh, what waits at nodes or is in flight, and what a step did.
 //!
-//! A node stands here as its index in the mesh.
+//! A node is given here by its index in the mesh.
 use crate::bytes::Bytes;
 use crate::set::NodeSet;
 
@@ -27,12 +27,12 @@ pub enum Event<'a> {
         node: usize,
         dest: usize,
     },
-    /// The link between two different nodes comes to stand, both ways.
+    /// The link between two different nodes is made, both ways.
     Link {
         a: usize,
         b: usize,
     },
-    /// The link between two different nodes falls, both ways.
+    /// The link between two different nodes is cut, both ways.
     Cut {
         a: usize,
         b: usize,
@@ -45,7 +45,7 @@ pub enum Event<'a> {
     Lose {
         id: u64,
     },
-    /// A second copy joins that of this id in flight.
+    /// The copy of this id is doubled: a second copy joins it in flight.
     Double {
         id: u64,
     },
@@ -54,11 +54,12 @@ pub enum Event<'a> {
 /// Which variant of the protocol a node runs.
 #[derive(Clone, Copy, Debug, PartialEq, Eq)]
 pub enum Variant {
-    /// The protocol as AWN has it.
+    /// The protocol as AWN defines it.
     Base,
     /// Requests are told apart by their originator's sequence number, not by their id.
     Number,
-    /// A reply is passed on wherever the node has a valid route of its own, as that route says.
+    /// A reply is passed on wherever a node has valid routes to its originator and its destination,
+    /// with the hops and number of the node's own entry.
     Reply,
     /// Route errors are broadcast.
     Error,
@@ -102,7 +103,7 @@ pub struct Flying {
     pub bytes: Bytes,
 }
 
-/// A copy in flight, as it is looked at: copies of one cast share the packet.
+/// A view of a copy in flight. Copies of one cast share the packet.
 #[derive(Clone, Copy)]
 pub struct FlyingView<'a> {
     pub id: u64,
@@ -120,7 +121,7 @@ pub enum Cast {
     All,
 }
 
-/// What a node's step did beside its new state.
+/// What a node's step did besides making its new state.
 #[derive(Clone, Copy)]
 pub struct Effect {
     /// The datum was delivered here.
@@ -151,7 +152,7 @@ pub enum Took {
     },
 }
 
-/// The copies of one cast, numbered from `first` by rising receiver.
+/// The copies of one cast. Their ids count from `first`, in ascending order of the receivers.
 #[derive(Clone, Copy)]
 pub struct Air {
     pub to: NodeSet,
@@ -171,7 +172,7 @@ pub enum Done {
         effect: Effect,
         air: Air,
     },
-    /// A datum that waited was sent, or a request made: the effect, and the copies of the cast.
+    /// A datum that waited was sent, or a request was made: the effect, and the copies of the cast.
     Sent {
         effect: Effect,
         air: Air,

@@ -1,7 +1,7 @@
 //! A few bytes, in an array that is copied whole.
 ghost use Rattle.std.specs.Prelude.{◌≡◌, ◌≤◌, ◌↔◌, [], length, IfSome, IsSome};
 
-/// At most so many bytes as there is room for: the first of an array.
+/// At most `CAPACITY` bytes: the first `width` of an array.
 #[derive(Clone, Copy)]
 pub(crate) struct InlineBytes<const CAPACITY: usize> {
     bytes: [u8; CAPACITY],
@@ -25,7 +25,7 @@ impl<const CAPACITY: usize> Default for InlineBytes<CAPACITY> {
 impl<const CAPACITY: usize> InlineBytes<CAPACITY> {
     ghost use Rattle.mesh_base.specs.InlineBytes.{inline_bytes};
 
-    /// A copy of b. None where b is too long.
+    /// A copy of b. None if b is too long.
     #[inline]
     pub(crate) fn of(b: &[u8]) -> Option<Self>
         ensures value { IfSome result (λ few. inline_bytes few ≡ b.now) }

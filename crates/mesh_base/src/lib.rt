@@ -1,7 +1,8 @@
-//! What every crate of the router and the emulator shares: addresses and the mesh that they make,
+//! What every crate of the router and the emulator shares: addresses and the mesh that they form,
 //! sets of nodes, lists of bytes and the memory for them, events and what they do.
 //!
-//! Node `i` of a mesh is its `i`-th address in rising order. All counts are of nodes or bytes.
+//! Node `i` of a mesh is the `i`-th of its addresses in ascending order, counted from 0. All counts
+//! are of nodes or bytes.
 #![tactic(auto)]
 
 mod addr;

@@ -18,5 +18,5 @@ pub const LONGEST_INPUT: usize = 16_777_216;
 /// The most events that one `auto` line does.
 pub const MOST_EVENTS: u64 = 1_000_000;
 
-/// The room for a line that is put together before it is written.
+/// The most bytes of a line that is put together before it is written.
 pub const LINE_CAPACITY: usize = 8192;

@@ -46,7 +46,7 @@ impl LineBuf {
         self.line.as_slice()
     }
 
-    /// All bytes go.
+    /// Removes all bytes.
     #[inline]
     pub fn clear(&mut self)
         ensures { self.new ≡ [] }
@@ -76,19 +76,19 @@ impl LineBuf {
         }
     }
 
-    /// Appends so many bytes as are known beforehand: without a call.
+    /// Appends an array. Its length is known at compile time, so the copy needs no call.
     #[inline]
     pub fn push_array<const SIZE: usize>(&mut self, bytes: &[u8; SIZE])
         requires { length self.old + SIZE ≤ LINE_CAPACITY }
         ensures text { self.new ≡ self.old ++ bytes.now }
         ensures length { length self.new ≡ length self.old + SIZE }
     {
-        // Copied first: for the compiler, what is appended may else lie in the line.
+        // Copied first: otherwise the compiler has to assume that these bytes may lie in the line.
         let bytes = *bytes;
         self.push_slice(&bytes);
     }
 
-    // Appends the first bytes of a chunk, so many as are known beforehand.
+    // Appends the first `PIECE` bytes of a chunk, a number that is known at compile time.
     #[inline(always)]
     fn push_piece<const PIECE: usize>(&mut self, chunk: &[u8])
         requires within { PIECE ≤ length chunk.now }
@@ -102,7 +102,8 @@ impl LineBuf {
         self.push_array(piece);
     }
 
-    /// Appends the first bytes of a short chunk: for each width, a copy whose size is known.
+    /// Appends the first `width` bytes of a short chunk. Each width has a copy of its own, whose
+    /// size is known at compile time.
     #[inline(always)]
     pub(crate) fn push_one_to_four(&mut self, chunk: &[u8; 4], width: usize)
         requires some { 1 ≤ width }
@@ -119,7 +120,7 @@ impl LineBuf {
         }
     }
 
-    /// Appends the first bytes of a chunk: for each width, a copy whose size is known.
+    /// Appends the first `width` bytes of a chunk, as `push_one_to_four` does.
     #[inline(always)]
     pub(crate) fn push_six_to_twelve(&mut self, chunk: &[u8; 16], width: usize)
         requires some { 6 ≤ width }

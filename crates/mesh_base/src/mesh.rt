@@ -15,16 +15,16 @@ use thiserror::Error;
 /// Why a node isn't added to a mesh.
 #[derive(Clone, Copy, Debug, PartialEq, Eq, Error)]
 pub enum MeshError {
-    /// The mesh has a node of this address.
+    /// The mesh already has a node of this address.
     #[error("the mesh has a node of this address")]
     Twice,
-    /// The mesh has 200 nodes.
+    /// The mesh already has 200 nodes.
     #[error("the mesh has 200 nodes")]
     TooMany,
 }
 
-/// At most 200 nodes, each an address and its first sequence number of at least 1, in rising order
-/// of address. It takes no memory but its own.
+/// At most 200 nodes, each an address and its first sequence number of at least 1, in ascending
+/// order of address. It takes no memory beyond its own size.
 #[derive(Drop)]
 pub struct Mesh {
     nodes: ArrayVec<(u32, u32), MOST_NODES>,
@@ -51,8 +51,7 @@ fn count_below(nodes: &[(u32, u32)], a: u32) -> usize
     nodes.partition_point(|node| node.0 < a)
 }
 
-// The index of an address where the addresses up to it are consecutive, as those of most meshes
-// are.
+// The index of an address, if the addresses up to it are consecutive, as they are in most meshes.
 #[inline]
 fn consecutive_index(nodes: &[(u32, u32)], a: u32) -> Option<usize>
     ensures { IfSome result (λ i. (i < length nodes.now) × (addr_at nodes.now i ≡ a)) }
@@ -67,7 +66,7 @@ fn consecutive_index(nodes: &[(u32, u32)], a: u32) -> Option<usize>
 }
 
 impl Mesh {
-    /// A mesh of no nodes.
+    /// A mesh without nodes.
     pub fn new() -> Mesh
         ensures { result ≡ [] }
     {
@@ -100,7 +99,7 @@ impl Mesh {
         Addr(self.nodes.as_slice()[i].0)
     }
 
-    /// Appends the address of node i as it is written: at most 15 bytes.
+    /// Appends the address of node i in its written form: at most 15 bytes.
     #[inline(always)]
     pub fn push_name(&self, i: usize, out: &mut LineBuf)
         requires node { i < length self.now }
@@ -111,9 +110,9 @@ impl Mesh {
         self.stem.write(self.at(i), out);
     }
 
-    /// Reads an address: it answers what `Addr::parse` does. It is faster where the text begins
-    /// with the first three numbers of the address that was added last, which most of a mesh share:
-    /// they are compared at once, and only the last number is read.
+    /// Reads an address as `Addr::parse` does. It is faster if the text begins with the first three
+    /// numbers of the address that was added last, which most of a mesh share: they are compared in
+    /// one step, and only the last number is read.
     #[inline(always)]
     pub fn parse_addr(&self, text: &[u8]) -> Option<Addr>
         ensures { option_map (λ a. a.0) result ≡ address_of text.now }
@@ -130,8 +129,8 @@ impl Mesh {
         self.nodes.as_slice()[i].1
     }
 
-    /// The node of an address. It is found at once where the addresses up to it are consecutive,
-    /// and else by a binary search.
+    /// The node of an address. It is found in one step if the addresses up to it are consecutive,
+    /// and otherwise by a binary search.
     #[inline(always)]
     pub fn index_of(&self, a: Addr) -> Option<usize>
         ensures value { result ≡ index_of self.now a.0 }
@@ -152,7 +151,7 @@ impl Mesh {
         }
     }
 
-    /// The node of an address that is there.
+    /// The node of an address that is in the mesh.
     #[tactic(auto, unfolding(crate::specs::Meshes::index_in))]
     pub fn index_in(&self, a: Addr) -> usize
         requires { IsTrue (is_some (index_of self.now a.0)) }

@@ -1,4 +1,5 @@
-//! The numbers of an address, written, and an address read by the three that most of a mesh share.
+//! Writing the numbers of an address, and reading an address by the three that most of a mesh
+//! share.
 ghost use Rattle.std.specs.Prelude.{◌≡◌, ◌<◌, ◌≤◌, ◌+◌, ◌/◌, ◌%◌, ◌++◌, ◌∷◌, [], length, take, IfSome};
 ghost use Rattle.std.specs.Fmt.{decimal};
 ghost use Rattle.std.specs.Option.{option_map};
@@ -43,7 +44,7 @@ static OCTETS: [[u8; 4]; 256] = [
     *b"252.", *b"253.", *b"254.", *b"255.",
 ];
 
-// How many bytes of its chunk each of them takes.
+// How many bytes of its chunk each number and its dot take.
 static WIDTHS: [u8; 256] = [
     2, 2, 2, 2, 2, 2, 2, 2, 2, 2, 3, 3, 3, 3, 3, 3, 3, 3, 3, 3, 3, 3, 3, 3, 3, 3, 3, 3, 3, 3, 3, 3,
     3, 3, 3, 3, 3, 3, 3, 3, 3, 3, 3, 3, 3, 3, 3, 3, 3, 3, 3, 3, 3, 3, 3, 3, 3, 3, 3, 3, 3, 3, 3, 3,
@@ -97,7 +98,7 @@ fn push_octet(out: &mut LineBuf, n: u32)
     out.push_one_to_four(&chunk(n), width(n) - 1);
 }
 
-/// Appends an address as it is written: at most 15 bytes.
+/// Appends an address in its written form: at most 15 bytes.
 pub fn write_dotted(a: Addr, out: &mut LineBuf)
     requires { length out.old + 15 ≤ LINE_CAPACITY }
     ensures text { out.new ≡ out.old ++ dotted_decimal a.0 }
@@ -109,7 +110,7 @@ pub fn write_dotted(a: Addr, out: &mut LineBuf)
     push_octet(out, a.0 % 256);
 }
 
-// A number below 256 and a dot, from this cell on. The result says where they end.
+// Writes a number below 256 and a dot to the cells from `at` on. The result is where they end.
 fn join(cells: &mut [u8; 16], at: usize, n: u32) -> usize
     requires octet { n < 256 }
     requires room { at ≤ 12 }
@@ -121,7 +122,7 @@ fn join(cells: &mut [u8; 16], at: usize, n: u32) -> usize
     at + width(n)
 }
 
-/// The first three numbers of addresses, written, each with its dot.
+/// The first three numbers of an address in their written form, each with its dot.
 #[derive(Clone, Copy)]
 pub(crate) struct Stem {
     // An address divided by 256.
@@ -145,8 +146,8 @@ impl Stem {
         }
     }
 
-    // What stands behind these numbers in a text that begins with them. None says nothing: numbers
-    // of more than eight bytes and those of a short text aren't looked for.
+    // What comes after these numbers in a text that begins with them. None doesn't mean that it
+    // begins otherwise: numbers of more than eight bytes, with their dots, aren't compared.
     #[inline(always)]
     fn behind<'t>(&self, text: &'t [u8]) -> Option<&'t [u8]>
         ensures { IfSome result (λ rest. text.now ≡ stem_of self.now.high ++ rest.now) }
@@ -161,7 +162,8 @@ impl Stem {
         if starts && ends { Some(rest) } else { None }
     }
 
-    /// Reads an address as `Addr::parse` does: at once where it begins with these numbers.
+    /// Reads an address as `Addr::parse` does. If it begins with these numbers, mostly only its
+    /// last number has to be read.
     #[inline(always)]
     #[tactic(auto, using(crate::proofs::StemLaws::stem_and_last))]
     pub(crate) fn read(&self, text: &[u8]) -> Option<Addr>
@@ -175,8 +177,8 @@ impl Stem {
         Addr::parse(text)
     }
 
-    /// Appends an address as it is written. The numbers that it has in common with these are copied
-    /// whole.
+    /// Appends an address in its written form. If these are its first three numbers, they are
+    /// copied whole.
     #[inline(always)]
     pub(crate) fn write(&self, a: Addr, out: &mut LineBuf)
         requires { length out.old + 15 ≤ LINE_CAPACITY }

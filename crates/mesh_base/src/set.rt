@@ -35,14 +35,14 @@ impl Model for NodeSet {
 }
 
 impl NodeSet {
-    /// The set of no nodes.
+    /// The empty set.
     pub fn new() -> NodeSet
         ensures { result ≡ set.empty }
     {
         NodeSet { words: [0; 4] }
     }
 
-    /// Node i joins the set.
+    /// Adds node i.
     pub fn add(&mut self, i: usize)
         requires { i < 256 }
         ensures { self.new ≡ set.insert self.old i }
@@ -50,7 +50,7 @@ impl NodeSet {
         self.words[i / 64] |= 1 << (i % 64);
     }
 
-    /// Node i leaves the set, if it is a member.
+    /// Removes node i, if it is a member.
     pub fn remove(&mut self, i: usize)
         requires { i < 256 }
         ensures { self.new ≡ set.remove self.old i }
@@ -66,7 +66,7 @@ impl NodeSet {
         i < 256 && (self.words[i / 64] >> (i % 64)) & 1 == 1
     }
 
-    /// The members of o join the set.
+    /// Adds the members of o.
     pub fn join(&mut self, o: &NodeSet)
         ensures { self.new ≡ set.union self.old o.now }
     {
@@ -75,7 +75,7 @@ impl NodeSet {
         self.words = [a[0] | b[0], a[1] | b[1], a[2] | b[2], a[3] | b[3]];
     }
 
-    /// The set keeps those members that o has too.
+    /// Keeps only the members that o has too.
     pub fn meet(&mut self, o: &NodeSet)
         ensures { self.new ≡ set.intersection self.old o.now }
     {
@@ -84,7 +84,7 @@ impl NodeSet {
         self.words = [a[0] & b[0], a[1] & b[1], a[2] & b[2], a[3] & b[3]];
     }
 
-    /// The members of o leave the set.
+    /// Removes the members of o.
     pub fn leave(&mut self, o: &NodeSet)
         ensures { self.new ≡ set.difference self.old o.now }
     {
@@ -100,7 +100,7 @@ impl NodeSet {
         self.words == o.words
     }
 
-    /// The least member that is not below i. None is the end of the set. It looks at each word
+    /// The least member that is not below i. None if there is none. It looks at each word at most
     /// once, and at no member but the one found.
     pub fn next_from(&self, i: usize) -> Option<usize>
         ensures least { IsLeastFrom self.now i result }
@@ -151,8 +151,8 @@ impl NodeSet {
         count + (words[word] & below).count_ones() as usize
     }
 
-    /// The member of rank k: the k-th from 0, by rising index. None where there are not so many.
-    /// Bits are counted, and no other member is looked at.
+    /// The member of rank k: the k-th, counted from 0, in ascending order. None if there are only k
+    /// members or fewer. Bits are counted, and no other member is looked at.
     pub fn nth(&self, k: usize) -> Option<usize>
         ensures value { result ≡ slice_get (member_list self.now) k }
         ensures below { IfSome result (λ m. m < 256) }
@@ -191,9 +191,9 @@ fn least_bit(word: u64, from: usize) -> Option<usize>
     Some(from + rest.trailing_zeros() as usize)
 }
 
-// The index of the bit that has k bits of the word below it. Six halvings find it: the one of
-// `rest` in the `width` bits from `base` on is in their lower half, if there are more than `rest`,
-// or else above.
+// The index of the set bit that has k set bits of the word below it. Six halvings find it: among
+// the `width` bits from `base` on, the set bit with `rest` set bits below it is in the lower half
+// if that half has more than `rest` of them, and in the upper half otherwise.
 fn nth_bit(word: u64, k: usize) -> usize
     requires { k < count_ones word }
     ensures { IsNthBit word k result }

@@ -1,4 +1,4 @@
-//! Buffers for a line and a packet, parts of texts, and decimal numbers.
+//! A packet's buffer, parts of texts, and decimal numbers.
 ghost use Rattle.std.specs.Prelude.{◌≡◌, ◌↔◌, ◌+◌, ◌/◌, ◌%◌, ◌<◌, ◌≤◌, [], ◌∷◌, ◌++◌, length, position, ◌==◌, IfNone, IfSome, IsTrue};
 ghost use Rattle.std.specs.Fmt.{decimal};
 ghost use Rattle.mesh_base.specs.Parts.{parts, rest_parts};
@@ -18,7 +18,7 @@ fn position_of(bytes: &[u8], sep: u8) -> Option<usize>
     bytes.iter().position(|b| *b == sep)
 }
 
-/// What stands before the first byte that is `sep`, and what stands after it.
+/// The bytes before the first `sep`, and those after it. If there is no `sep`, all bytes, and None.
 pub fn cut(bytes: &[u8], sep: u8) -> (&[u8], Option<&[u8]>)
     ensures whole { IfNone result.1 (result.0.now ≡ bytes.now) }
     ensures parts { parts sep bytes.now ≡ result.0.now ∷ rest_parts sep result.1 }
@@ -31,7 +31,7 @@ pub fn cut(bytes: &[u8], sep: u8) -> (&[u8], Option<&[u8]>)
     }
 }
 
-/// Whether four bytes are these: as numbers they are compared at once.
+/// Whether four bytes equal these four. They are compared as one number.
 #[inline(always)]
 pub fn are_equal(bytes: &[u8; 4], these: &[u8; 4]) -> bool
     ensures { IsTrue result ↔ (bytes.now ≡ these.now) }
@@ -63,7 +63,7 @@ fn digits_up_to(ds: &[u8], most: u64) -> Option<u64>
     if n <= most { Some(n) } else { None }
 }
 
-/// The number that these bytes encode in decimal digits without a leading zero, where it is at most
+/// The number that these bytes denote in decimal digits without a leading zero, if it is at most
 /// `most`.
 #[tactic(auto, unfolding(crate::specs::Numbers::number_up_to))]
 pub fn number_up_to(bytes: &[u8], most: u64) -> Option<u64>
@@ -144,7 +144,7 @@ pub(crate) fn push_short(out: &mut LineBuf, n: u32)
     }
 }
 
-// Appends the last four digits of a number.
+// Appends a number of at most four digits, with leading zeros up to four.
 #[inline]
 fn push_four(out: &mut LineBuf, n: u32)
     requires short { n < 10000 }
@@ -175,7 +175,7 @@ pub fn push_decimal(out: &mut LineBuf, n: u64)
     }
 }
 
-/// Appends any number in decimal digits.
+/// Appends a number in decimal digits: at most 20 bytes.
 #[tactic(auto, using(crate::proofs::NumberLaws::at_most_twenty))]
 pub fn push_number(out: &mut LineBuf, n: u64)
     requires { length out.old + 20 ≤ LINE_CAPACITY }

@@ -1,9 +1,9 @@
 -- Read in this order.
 -- Blocks: the node that an event has changed, and the block that shows it.
 pub mod Blocks
--- Changes: what has changed of its block.
+-- Changes: what an event has changed of that node's block.
 pub mod Changes
--- Forms: what stands below an event, the block or the changes.
+-- Forms: what is written below an event, the block or its changes.
 pub mod Forms
 -- Text: the text of a watched run, and its verdict.
 pub mod Text
@@ -13,8 +13,8 @@ pub mod RunStates
 pub mod Parts
 -- Laws: what is proved of these definitions.
 pub mod Laws
--- Outputs: what was told of a watched run. This is what the contract of the public call cites.
+-- Outputs: what a watched run has written and answered. The contract of `run` cites this.
 pub mod Outputs
--- The other says what the parts of a run do.
+-- The last one says what the parts of a run do.
 -- Lines: what one event comes to.
 pub mod Lines

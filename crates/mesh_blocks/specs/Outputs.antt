@@ -1,4 +1,4 @@
--- What was told of a watched run: what the sink held before, and what it holds now.
+-- What a watched run has written and answered: what the sink held before, and what it holds now.
 use Rattle.std.specs.Prelude.{ℕ, ◌≡◌, List, Option}
 use Rattle.mesh_base.specs.declared.events.Variant.{Variant}
 use Rattle.mesh_model.specs.Walks.{Cycle}
@@ -14,8 +14,8 @@ use Rattle.mesh_blocks.specs.Parts.{HasBlocksBelowEvents}
 
 -- ---- what is written and answered
 
--- a watched run of these bytes from a state on has answered, where the source has this left. After
--- a failed read what was written is the text of the lines that were read whole
+-- a watched run of these bytes from a state on has answered, and the source has this left. After a
+-- failed read, what was written is the text of the lines that were read whole
 abbrev pub IsOutputFrom : Below → RunState → List ℕ → Option (List ℕ) → Option (List ℕ)
     → Option (List ℕ) → Status → Type 0
 IsOutputFrom below m bytes left before now s =
@@ -23,9 +23,10 @@ IsOutputFrom below m bytes left before now s =
 
 -- ---- the run that is written
 
--- its worlds are those of the schedule's run: the last one; and the one after each line, and after
--- each event of the next. In none of them has a destination a loop. Its text is that of the run,
--- and directly below each event that has changed a node its block, or the changes of its block
+-- its worlds are those of the schedule's run: the last one, the one after each line, and the one
+-- after each event of the next line. In none of them does a destination have a loop. Its text is
+-- that of the run and, directly below each event that has changed a node, that node's block or the
+-- changes of that block
 pub record IsWatchedRun (below : Below) (variant : Variant) (schedule : List ℕ) : Type 0 where
   pub worlds : let w = watched_of_input below variant schedule in
       world_of w.after ≡ world_after variant schedule w.after.sums.events
@@ -37,7 +38,7 @@ pub record IsWatchedRun (below : Below) (variant : Variant) (schedule : List ℕ
       → ¬ (Cycle (world_of (state_within below variant schedule i k)) d)
   pub blocks : HasBlocksBelowEvents below variant schedule
 
--- what was told of the schedule that a source had, which is that of such a run
+-- such a run of the schedule that a source had has written and answered this
 abbrev pub IsRun : Below → Variant → List ℕ → Option (List ℕ) → Option (List ℕ) → Option (List ℕ)
     → Status → Type 0
 IsRun below variant schedule left before now s =

@@ -14,18 +14,18 @@ abbrev pub watched_prefix : Below → Variant → List ℕ → ℕ → RunText
 watched_prefix below variant input i =
     watched_from below (opening variant) (take i (pieces_of_input input))
 
--- each of them is allowed, and none is refused for a full counter
+-- each of these lines is allowed, and none is refused for a full counter
 abbrev pub AreDone : Below → Variant → List ℕ → ℕ → Type 0
 AreDone below variant input i = (watched_prefix below variant input i).verdict ≡ Finished
 
--- the state after them, and k events of the next
+-- the state after these lines, and k events of the next
 abbrev pub state_within : Below → Variant → List ℕ → (i k : ℕ) → RunState
 state_within below variant input i k =
     let before = watched_prefix below variant input i in
     state_in_next before.after (slice_get (pieces_of_input input) i) k
 
--- the world of a state is the one that as many of the input's events lead to as were counted, one
--- after another, from the nodes that are there
+-- the world of a state is the one to which the input's first events, as many as the state has
+-- counted, lead from the opening world of its nodes
 abbrev pub IsOfEvents : Variant → List ℕ → RunState → Type 0
 IsOfEvents variant input m =
     world_of m

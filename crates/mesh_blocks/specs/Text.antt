@@ -1,5 +1,5 @@
--- The text of a watched run, and its verdict, from the bytes of its input: the text of the run, and
--- below each event that has changed a node its block, or the changes of its block.
+-- The text of a watched run, and its verdict, from the bytes of its input: the text of the run and,
+-- below each event that has changed a node, that node's block or the changes of that block.
 use Rattle.std.specs.Prelude.{ℕ, List, [], ◌∷◌, Result, Ok, Err, length, is_some}
 use Rattle.mesh_base.specs.declared.events.Variant.{Variant}
 use Rattle.mesh_model.specs.Worlds.{Event}
@@ -17,7 +17,7 @@ use Rattle.mesh_text.specs.declared.verdict.Verdict.{Verdict}
 use Rattle.mesh_blocks.specs.declared.below.Below.{Below}
 use Rattle.mesh_blocks.specs.Forms.{below_text}
 
--- these events from a state on, each with what stands below it
+-- what these events come to from a state on, each with what is written below it
 unfoldable pub watched_events : Below → RunState → List Event → EventsOutcome
 watched_events below m [] = Ended [] m
 watched_events below m (e ∷ events) =
@@ -26,7 +26,7 @@ watched_events below m (e ∷ events) =
 
 -- ---- one line
 
--- an allowed line in a state
+-- what an allowed line comes to in a state
 unfoldable pub watched_line : Below → RunState → AcceptedLine → LineOutcome
 watched_line below m (Does e) = outcome_by_events (watched_events below (with_world m) (e ∷ []))
 watched_line below m (Chooses count) =
@@ -47,8 +47,8 @@ watched_piece below m others = outcome_of_piece m others
 
 -- ---- all lines
 
--- a watched run of a schedule: nothing stands before the text of its first line, and it ends as the
--- run does
+-- a watched run of a schedule: nothing is written before the text of its first line, and it ends as
+-- the run does
 abbrev pub watched_run : Below → shell.Fold RunState Verdict
 watched_run below = record {
   head = λ m. [];
@@ -64,6 +64,6 @@ watched_from below m pieces = shell.text_from (watched_run below) m pieces
 abbrev pub watched_on : Below → RunState → List ℕ → RunText
 watched_on below m input = shell.text_on (watched_run below) schedule_limits m input
 
--- the same from the opening on
+-- the same from the opening state on
 unfoldable pub watched_of_input : Below → Variant → List ℕ → RunText
 watched_of_input below variant input = watched_on below (opening variant) input

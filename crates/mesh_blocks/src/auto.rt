@@ -1,4 +1,4 @@
-//! Events that the run chooses, one after another, each with what stands below it.
+//! Events that the run chooses, one after another, each with what is written below it.
 ghost use Rattle.std.specs.Prelude.{◌≡◌, ◌<◌, ◌+◌, length, is_some, true, OnOk, IfOk};
 ghost use Rattle.mesh_base.specs.Bounds.{most_lines, most_steps, most_steps_before_line};
 ghost use Rattle.mesh_text.specs.Schedule.{Chooses};
@@ -18,8 +18,8 @@ use mesh_script::Line;
 use mesh_world::World;
 use std::alloc::Global;
 
-// Does up to so many events, each chosen when the one before it is done. It answers how many there
-// were.
+// Does at most `count` events, each chosen after the one before it is done, and answers how many it
+// did.
 fn do_events<O: Sink>(
     alloc: Global,
     at: &mut Point<World>,
@@ -49,8 +49,8 @@ fn do_events<O: Sink>(
     Ok(did)
 }
 
-/// Does a line of events that the run chooses, starts the run where that is due, and counts the
-/// line: writes it as it stands, the events with what stands below each, and their number.
+/// Does a line of events that the run chooses: starts the run if that is due, writes the line as it
+/// was read, the events with what is below each, and how many there were, and counts the line.
 pub fn do_auto<O: Sink>(
     alloc: Global,
     at: &mut Point<World>,

@@ -1,7 +1,7 @@
 //! What a watched run writes below an event that has changed a node.
 ghost use Rattle.std.specs.Prelude.{◌≡◌};
 
-/// What stands below an event that has changed a node.
+/// What is written below an event that has changed a node.
 #[derive(Clone, Copy, Debug, PartialEq, Eq)]
 pub enum Below {
     /// The node's block: what a line `show` of that node writes in the state after the event.
@@ -10,22 +10,22 @@ pub enum Below {
     Changes,
 }
 
-/// A form of a watched run, for a type to name.
+/// A form of a watched run, as a type.
 pub trait Form {
     ghost use Rattle.mesh_blocks.specs.declared.below.Below.{Below};
 
-    /// What stands below its events.
+    /// What is written below its events.
     ghost below: { Below };
 
-    /// The same.
+    /// `below`, as a value of the code.
     fn below() -> Below
         ensures { result ≡ below };
 }
 
-/// With blocks.
+/// The form that writes blocks.
 pub struct WithBlocks;
 
-/// With the changes of blocks.
+/// The form that writes the changes of blocks.
 pub struct WithChanges;
 
 impl Form for WithBlocks {

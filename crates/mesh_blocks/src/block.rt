@@ -77,7 +77,7 @@ fn receiver(world: &World, id: u64) -> Option<usize>
         → result ≡ Some x }
     ensures within { IfSome result (λ x. x < length world.now.mesh) }
 {
-    // Where its mesh is asked for it is said that the world is sound.
+    // The contract of `mesh` says that the world is sound.
     let _mesh = world.mesh();
     world.radio().receiver(id)
 }
@@ -102,7 +102,7 @@ pub fn put_shown<O: Sink>(
     put_node(world.mesh(), world.node(node), buf, out)
 }
 
-/// A node's block, in place of what the draft held.
+/// Writes a node's block to the draft, in place of what the draft held.
 pub fn draw_block(
     state: &State<World>,
     node: usize,
@@ -120,8 +120,8 @@ pub fn draw_block(
     }
 }
 
-/// The block of the node that an event will change, if it changes one, in place of what the draft
-/// held.
+/// Writes to the draft, in place of what it held, the block of the node that an event will change,
+/// if the event changes a node.
 pub fn draw_block_before(
     state: &State<World>,
     event: &Event<'_>,

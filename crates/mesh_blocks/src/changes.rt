@@ -7,7 +7,7 @@ ghost use Rattle.mesh_blocks.specs.Changes.{lines_of, stands_in, lines_before, l
 use mesh_base::cut;
 use mesh_io::{PutFault, Sink, put_all};
 
-// The first line of a text, without its LF, and what stands behind it. None where there is no LF.
+// The first line of a text, without its LF, and what comes after the LF. None if there is no LF.
 fn next_line(text: &[u8]) -> Option<(&[u8], &[u8])>
     ensures lines { MatchOption result (lines_of text.now ≡ [])
         (λ p. lines_of text.now ≡ p.0.now ∷ lines_of p.1.now) }
@@ -20,7 +20,7 @@ fn next_line(text: &[u8]) -> Option<(&[u8], &[u8])>
     }
 }
 
-// Whether a line stands in a text.
+// Whether a text has this line.
 fn stands_in(line: &[u8], text: &[u8]) -> bool
     ensures { result ≡ stands_in line.now (lines_of text.now) }
 {
@@ -34,7 +34,7 @@ fn stands_in(line: &[u8], text: &[u8]) -> bool
     false
 }
 
-// A line of a block without the two blanks in front of it.
+// A line of a block without the two blanks that it begins with.
 fn without_blanks(line: &[u8]) -> &[u8]
     ensures { result.now ≡ drop 2 line.now }
 {
@@ -44,7 +44,7 @@ fn without_blanks(line: &[u8]) -> &[u8]
     &line[2..]
 }
 
-// The same behind a mark.
+// Writes a mark, and then a line of a block without those blanks.
 fn put_marked<O: Sink>(mark: &[u8], line: &[u8], out: &mut O) -> Result<(), PutFault>
     ensures text { Puts (O.held out.old) (O.held out.new) (marked mark.now line.now) result }
     ensures cause { HasCause (O.faults out.old) (O.faults out.new) result }
@@ -54,8 +54,8 @@ fn put_marked<O: Sink>(mark: &[u8], line: &[u8], out: &mut O) -> Result<(), PutF
     put_all(out, b"\n")
 }
 
-// The lines of a text in front of the first occurrence of this line came. It answers what stands
-// behind it.
+// Writes the lines of a text before the first occurrence of this line as lines that came, and
+// returns what comes after that occurrence.
 fn put_came_before<'a, O: Sink>(
     line: &[u8],
     text: &'a [u8],
@@ -78,7 +78,7 @@ fn put_came_before<'a, O: Sink>(
     Ok(rest)
 }
 
-// All lines of a text came.
+// Writes all lines of a text as lines that came.
 fn put_came<O: Sink>(text: &[u8], out: &mut O) -> Result<(), PutFault>
     ensures text { Puts (O.held out.old) (O.held out.new)
         (changes_text (map Came (lines_of text.now))) result }
@@ -92,7 +92,7 @@ fn put_came<O: Sink>(text: &[u8], out: &mut O) -> Result<(), PutFault>
     Ok(())
 }
 
-// The changes up to a line that was there before. It answers which lines after are left.
+// Writes the changes up to a line that was there before, and returns what is then left of `after`.
 fn put_changes_to<'a, O: Sink>(
     line: &[u8],
     after: &'a [u8],

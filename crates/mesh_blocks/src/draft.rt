@@ -4,7 +4,7 @@ ghost use Rattle.std.specs.Prelude.{◌≡◌, Some, []};
 use mesh_io::{Failed, Sink};
 use std::alloc::Global;
 
-/// A text in memory. As a sink it takes each piece whole, and fails where memory runs out.
+/// A text in memory. As a sink it takes each piece whole, and fails if memory runs out.
 #[derive(Drop)]
 pub struct Draft {
     bytes: Vec<u8>,
@@ -12,7 +12,7 @@ pub struct Draft {
 }
 
 impl Draft {
-    /// An empty one. No memory is taken yet.
+    /// An empty draft, which takes no memory yet.
     pub fn new(alloc: Global) -> Draft
         ensures text { result.bytes.items ≡ [] }
         ensures failed { result.failed ≡ 0 }
@@ -30,7 +30,7 @@ impl Draft {
         self.bytes.as_slice()
     }
 
-    /// The text goes, and its memory is kept for the next.
+    /// Removes the text, and keeps its memory for the next one.
     pub fn clear(&mut self)
         ensures text { self.new.bytes.items ≡ [] }
         ensures failed { self.new.failed ≡ self.old.failed }
@@ -63,7 +63,7 @@ pub struct Drafts {
 }
 
 impl Drafts {
-    /// Empty ones. No memory is taken yet.
+    /// Two empty drafts, which take no memory yet.
     pub fn new(alloc: Global) -> Drafts
         ensures before { result.before.bytes.items ≡ [] }
         ensures after { result.after.bytes.items ≡ [] }

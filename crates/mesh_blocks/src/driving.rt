@@ -14,7 +14,7 @@ use mesh_io::{Limits, SCHEDULE_CAPACITY, Sink, Source};
 use mesh_run::Status;
 use std::alloc::Global;
 
-// The same in one form.
+// `run` in one form.
 fn run_as<F: Form, I: Source, O: Sink>(
     alloc: Global,
     variant: Variant,
@@ -45,11 +45,11 @@ fn run_as<F: Form, I: Source, O: Sink>(
 }
 
 /// Runs the schedule that the source gives, in a world of its own where all nodes run this variant
-/// of the protocol, and writes its text to the sink, line by line, with what is asked for below
-/// each event that has changed a node: with `Blocks` what a line `show` of that node writes at the
-/// state after the event; with `Changes` a line that names the node, and then each line of that
-/// block that went with the event or came. They stand in the block's order; between two lines that
-/// stay, those that went stand before those that came.
+/// of the protocol, and writes its text to the sink, line by line. Below each event that has
+/// changed a node it writes what is asked for: with `Blocks`, what a line `show` of that node
+/// writes in the state after the event; with `Changes`, a line that names the node, and then each
+/// line of that block that went with the event or came. These are in the block's order; between two
+/// lines that stay, those that went are before those that came.
 ///
 /// What is written is gathered in a buffer of 65536 bytes, and handed on when that is full, before
 /// each read of the source, and at the end, unless a write has failed. With `Changes` two blocks
@@ -62,26 +62,27 @@ pub fn run<I: Source, O: Sink>(
     input: &mut I,
     out: &mut O,
 ) -> Status
-    // What is written is the text of the input with its blocks, or their changes, and the answer
-    // its verdict. After a failed write, or want of memory, it is a prefix of that text; after a
-    // failed read it is the text of the lines that were read whole. A block and its changes are
-    // whole lines, directly below those of the event, of the node that the event has changed. After
-    // each line of that run, and after each event of the next, the world is that of the run without
-    // blocks, to which its events so far lead, and in no such world does a destination have a loop.
+    // What is written is the text of the input with its blocks, or their changes, and the answer is
+    // its verdict. After a failed write or a lack of memory, a prefix of that text is written;
+    // after a failed read, the text of the lines that were read whole. A block and its changes are
+    // whole lines, directly below those of the event, and are of the node that the event has
+    // changed. After each line of that run, and after each event of the next, the world is that of
+    // the run without blocks, to which its events so far lead, and in no such world does a
+    // destination have a loop.
     ensures told { IfSome (I.left input.old) (λ bytes. IsRun below variant bytes
         (I.left input.new) (O.held out.old) (O.held out.new) result) }
 
-    // Done only where the input was read to its end.
+    // Done comes only if the input was read to its end.
     ensures end { result ≡ Status.Done → IsAtEnd (I.left input.new) }
 
-    // A fault is answered only where the source or the sink has failed in this call, and no other
-    // answer is given where one of them has.
+    // A fault is answered only if the source or the sink has failed in this call, and no other
+    // answer comes if one of them has.
     ensures read { HasSourceCause (I.faults input.old) (I.faults input.new) result }
     ensures write { HasStatusCause Status.WriteFault (O.faults out.old) (O.faults out.new) result }
     ensures words { result ≢ Status.Usage }
 
-    // Where every line is allowed, no event is refused and nothing has failed, the whole text is
-    // written, unless memory runs out.
+    // If every line is allowed, no event is refused, and neither the source nor the sink has
+    // failed, the whole text is written, unless memory runs out.
     ensures complete { IfSome (I.left input.old) (λ bytes.
         (text_of_input variant bytes).verdict ≡ Finished
         → (Rose (I.faults input.old) (I.faults input.new) → ⊥)

@@ -1,4 +1,4 @@
-//! An event, and what stands below it.
+//! An event, and what is written below it.
 ghost use Rattle.std.specs.Prelude.{◌≡◌, ◌<◌, ◌++◌, length, is_some, true, OnOk, IfSome, IsErrOf};
 ghost use Rattle.mesh_base.specs.Bounds.{most_lines, most_steps, most_steps_before_line};
 ghost use Rattle.mesh_base.specs.Meshes.{Nodes};
@@ -30,7 +30,7 @@ use mesh_script::Line;
 use mesh_world::{StepError, World};
 use std::alloc::Global;
 
-/// Why an event was not written whole with what stands below it.
+/// Why an event was not written whole with what belongs below it.
 #[derive(Clone, Copy)]
 pub enum Unwritten {
     WriteFault,
@@ -53,7 +53,7 @@ impl From<NoMemory> for Unwritten {
     }
 }
 
-// The line that names a node that was changed.
+// Writes the line that names a node that was changed.
 fn put_changed_line<O: Sink>(
     mesh: &Mesh,
     node: usize,
@@ -71,7 +71,7 @@ fn put_changed_line<O: Sink>(
     put_all(out, buf.as_slice())
 }
 
-// What has changed of the block of a node, which is kept as it was before.
+// Writes what has changed of a node's block, which was kept as it was before the event.
 fn put_changed<O: Sink>(
     state: &State<World>,
     node: usize,
@@ -92,7 +92,7 @@ fn put_changed<O: Sink>(
     Ok(())
 }
 
-// What stands below an event that has changed this node.
+// Writes what belongs below an event that has changed this node.
 fn put_below<O: Sink>(
     state: &State<World>,
     node: usize,
@@ -117,7 +117,7 @@ fn put_below<O: Sink>(
     }
 }
 
-// An event, what it did, and what stands below it.
+// Writes an event, what it did, and what belongs below it.
 fn put_watched<O: Sink>(
     state: &State<World>,
     below: Below,
@@ -151,7 +151,7 @@ fn put_watched<O: Sink>(
     }
 }
 
-// Keeps the block of the node that an event will change, where the changes are to be written.
+// Keeps the block of the node that an event will change, if the changes are to be written.
 fn keep_block(
     state: &State<World>,
     below: Below,
@@ -170,8 +170,8 @@ fn keep_block(
     }
 }
 
-/// Does an event once the run has started, and writes it with what stands below it: as its line
-/// stands, where it has one.
+/// Does an event once the run has started, and writes it, as its line was read if it has one, with
+/// what belongs below it.
 pub fn do_event<'a, O: Sink>(
     alloc: Global,
     at: &mut Point<World>,
@@ -220,8 +220,8 @@ pub fn do_event<'a, O: Sink>(
     }
 }
 
-/// Does a line with one event, starts the run where that is due, and counts the line: writes it as
-/// it stands, what the event did, and what stands below it.
+/// Does a line with one event: starts the run if that is due, writes the line as it was read, what
+/// the event did, and what belongs below it, and counts the line.
 pub fn do_step<'a, O: Sink>(
     alloc: Global,
     at: &mut Point<World>,

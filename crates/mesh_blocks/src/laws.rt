@@ -7,32 +7,32 @@ pub fn a_watched_run_is_the_run()
     ensures { WatchedRunIsTheRun }
 {}
 
-/// So it does in each state: after each of its lines, and after each event of the next.
+/// Its states are those of the run: after each of its lines, and after each event of the next.
 pub fn each_state_is_the_runs()
     ensures { StateIsTheRuns }
 {}
 
-/// The text of a watched run is that of the run, and directly below each event that has changed a
-/// node it has a block, which shows that node in the state after the event as a line `show` does,
-/// or what has changed of that block. The lines of events, what stands below them, and what stands
-/// between them are whole lines.
+/// The text of a watched run is that of the run and, directly below each event that has changed a
+/// node, a block, which shows that node in the state after the event as a line `show` does, or what
+/// has changed of that block. The lines of events, what is below them, and what is between them are
+/// whole lines.
 pub fn blocks_are_all_that_is_added()
     ensures { BlocksAreAllThatIsAdded }
 {}
 
-/// In a watched run each datum that was given or doubled was delivered, waits, is in flight, or was
-/// dropped.
+/// In a watched run as many data were given or doubled as were delivered, wait, are in flight, or
+/// were dropped.
 pub fn data_are_accounted_for()
     ensures { DataAreAccountedFor }
 {}
 
-/// The changes of a block lead from the one block to the other: any line stands as often in the
-/// block before, with the times that it came, as in the block after, with the times that it went.
+/// The changes of a block lead from the block before to the block after: for any line, how often it
+/// occurs before, plus how often it came, is how often it occurs after, plus how often it went.
 pub fn changes_lead_on()
     ensures { ChangesLeadOn }
 {}
 
-/// A block that is as it was has no changes.
+/// An unchanged block has no changes.
 pub fn same_lines_have_no_changes()
     ensures { SameLinesHaveNoChanges }
 {}

@@ -1,8 +1,8 @@
-//! The run of a schedule with what it changes: below each event that has changed a node stands a
-//! block, which is what a line `show` of that node writes in the state after the event, or the
-//! changes of that block, which are the lines that went and those that came. Without them the text
-//! is that of the run, as are the states, the verdict and the last line. The page and the program
-//! `mesh_watch` run schedules by it.
+//! The run of a schedule with what it changes. Below each event that has changed a node it writes a
+//! block, which is what a line `show` of that node writes in the state after the event; or the
+//! changes of that block, which are the lines that went and those that came. Without these the text
+//! is that of the run, and so are the states, the verdict and the last line. The page and the
+//! program `mesh_watch` run schedules with it.
 #![tactic(auto)]
 
 mod auto;

@@ -10,16 +10,16 @@ use Rattle.mesh_capture.specs.declared.status.CaptureVerdict.TheVariants.{Done, 
 use Rattle.mesh_capture.specs.Frames.{record_of, file_header}
 use Rattle.mesh_capture.specs.Copies.{Reading, LineOutcome, nothing_read, after_line}
 
--- the packet of the copy that a line has ended, if it has
+-- the packet of the copy that a line has ended, if it has ended one
 abbrev pub framed_if : Option Frame → List ℕ
 framed_if None = []
 framed_if (Some f) = record_of f
 
--- the line below those that were read is refused
+-- the line after those that were read is refused
 abbrev pub refused_after : Reading → Outcome Reading CaptureVerdict
 refused_after r = Ended [] [] (BadLine (r.lines + 1))
 
--- a line that tells this, or is refused
+-- a line that comes to this, or is refused
 abbrev pub captured_after : Reading → Option LineOutcome → Outcome Reading CaptureVerdict
 captured_after r None = refused_after r
 captured_after r (Some told) = On (framed_if told.frame) told.now
@@ -34,7 +34,7 @@ line_captured r Beyond = refused_after r
 abbrev pub capture_done : Reading → Ending Reading CaptureVerdict
 capture_done r = record { text = []; verdict = Done; after = r }
 
--- the header of the file stands before the packets
+-- the header of the file comes before the packets
 abbrev pub capture : Fold Reading CaptureVerdict
 capture = record {
   head = λ r. file_header;

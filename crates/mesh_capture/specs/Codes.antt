@@ -1,4 +1,4 @@
--- The status of an answer, and that with which the process ends.
+-- The status of an answer, and the status with which the process ends.
 use Rattle.std.specs.Prelude.{ℕ, Result, Ok, Err}
 use Rattle.mesh_shell.specs.declared.fault.Fault.{Fault}
 use Rattle.mesh_shell.specs.declared.fault.Fault.TheVariants as fault
@@ -16,7 +16,7 @@ status_of (Err fault.ReadFault) = ReadFault
 status_of (Err fault.WriteFault) = WriteFault
 status_of (Err fault.NoMemory) = NoMemory
 
--- the status where there are no words to take: those that are no text are words too
+-- the status if the command line's words can't be taken: words that aren't text are words too
 abbrev pub without_words : WordsError → CaptureStatus
 without_words words.NotText = Usage
 without_words words.NoMemory = NoMemory

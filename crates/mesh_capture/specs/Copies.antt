@@ -1,5 +1,6 @@
--- What the lines of a printed text tell of copies: which are in flight, with which packet, and
--- which are heard or lost. Effects, which begin with two spaces, are those of the line above them.
+-- What the lines of a printed text say about copies: which are in flight, with which packet, and
+-- which are heard or lost. Effects, which begin with two spaces, belong to the last line above them
+-- that doesn't.
 use Rattle.std.specs.Prelude.{ℕ, ◌+◌, ◌==◌, Bool, true, false, ◌||◌, if◌then◌else◌, List, [], ◌∷◌, take, drop, Option, Some, None, option_and_then, option_map, Result, Ok, Err, codes, length, nat_le, ◌&&◌, is_some}
 use Rattle.std.specs.Str.{bytes_eq}
 use Rattle.std.specs.Map.{lookup, remove_entry}
@@ -25,8 +26,8 @@ Flying = List (ℕ × FlyingCopy)
 abbrev pub copy_in : Flying → ℕ → Option FlyingCopy
 copy_in flying id = lookup (is_at (nat_cmp id)) flying
 
--- what the lines read so far tell: how many events there were, what stands below the last line, the
--- copies in flight, and how many lines
+-- what is known from the lines read so far: how many events there were, what may be below the last
+-- line without two spaces, the copies in flight, and how many lines were read
 pub record Reading : Type 0 where
   pub events : ℕ
   pub below : Below
@@ -36,7 +37,7 @@ pub record Reading : Type 0 where
 abbrev pub nothing_read : Reading
 nothing_read = record { events = 0; below = Nothing; flying = []; lines = 0 }
 
--- what one line tells: what is known after it, and the copy that it ends
+-- what a line comes to: what is known after it, and the copy that it ends
 pub record LineOutcome : Type 0 where
   pub now : Reading
   pub frame : Option Frame
@@ -44,13 +45,13 @@ pub record LineOutcome : Type 0 where
 abbrev pub no_frame : Reading → LineOutcome
 no_frame r = record { now = r; frame = None }
 
--- a line of its form that tells nothing of copies
+-- a line that says nothing about copies, and is refused if it isn't of its form
 abbrev pub told_if : Bool → Reading → Option LineOutcome
 told_if of_form r = if of_form then Some (no_frame r) else None
 
 -- ---- packets and copies
 
--- a packet that a mesh may send
+-- there are bytes, and no more than a mesh may send in one packet
 abbrev pub is_packet : List ℕ → Bool
 is_packet bytes = nat_le 1 (length bytes) && nat_le (length bytes) LONGEST_PACKET
 
@@ -58,40 +59,40 @@ abbrev pub packet_by : Result (List ℕ) FromHexError → Option (List ℕ)
 packet_by (Ok bytes) = if is_packet bytes then Some bytes else None
 packet_by (Err e) = None
 
--- the packet that hexadecimal tells
+-- the packet that a word gives in hexadecimal
 abbrev pub packet_of : List ℕ → Option (List ℕ)
 packet_of word = if is_hex word then packet_by (decode_of word) else None
 
--- one receiver, or many
+-- `one` and an address, or `many` and addresses
 abbrev pub are_receivers : List ℕ → List ℕ → Bool
 are_receivers kind receivers =
     (bytes_eq kind (codes "one") && is_address receivers)
     || (bytes_eq kind (codes "many") && are_addresses receivers)
 
--- the words after `sent`: `all HEX`, or `one ADDR HEX` and `many LIST HEX`. Which of the receivers
--- have a copy the lines below tell
+-- the words after `sent`: `all HEX`, `one ADDR HEX` or `many LIST HEX`. The lines below say which
+-- receivers get a copy
 abbrev pub cast_packet : List (List ℕ) → Option (List ℕ)
 cast_packet (kind ∷ hex ∷ []) = if bytes_eq kind (codes "all") then packet_of hex else None
 cast_packet (kind ∷ receivers ∷ hex ∷ []) =
     if are_receivers kind receivers then packet_of hex else None
 cast_packet others = None
 
--- a packet is cast: once below an event
+-- a packet is cast, which happens at most once below an event
 abbrev pub after_sent : Reading → Below → List (List ℕ) → Option LineOutcome
 after_sent r (Casts node None) words =
     option_map (λ packet. no_frame (record r { below = Casts node (Some packet) }))
     (cast_packet words)
 after_sent r _ words = None
 
--- a copy of this number joins the flight
+-- a copy of this number joins the copies in flight
 abbrev pub joined : Reading → ℕ → FlyingCopy → LineOutcome
 joined r id copy = no_frame (record r { flying = insert_entry nat_cmp r.flying id copy })
 
--- a new copy joins the flight. One whose number is there already is refused
+-- a new copy joins the copies in flight. It is refused if a copy of its number is there already
 abbrev pub with_copy : Reading → ℕ → FlyingCopy → Option LineOutcome
 with_copy r id copy = if is_some (copy_in r.flying id) then None else Some (joined r id copy)
 
--- another one of a copy, which has the same receiver
+-- a double of a copy, which has the same receiver
 abbrev pub doubled_copy : Option FlyingCopy → ℕ → Option FlyingCopy
 doubled_copy None to = None
 doubled_copy (Some c) to = if c.to == to then Some c else None
@@ -108,9 +109,9 @@ abbrev pub after_copy : Reading → Below → Option (ℕ × ℕ) → Option Lin
 after_copy r below None = None
 after_copy r below (Some w) = option_and_then (with_copy r w.0) (new_copy r.flying below w.1)
 
--- ---- the copies that `flight` shows
+-- ---- the copies that are shown below `flight`
 
--- the copy of this number, from here to there
+-- the copy of this number, with its sender and receiver and its packet
 abbrev pub shown_as : ℕ → ℕ × ℕ → List ℕ → ℕ × FlyingCopy
 shown_as id ends packet = (id, record { from = ends.0; to = ends.1; packet = packet })
 
@@ -125,7 +126,8 @@ shown_copy others = None
 abbrev pub is_same_copy : FlyingCopy → FlyingCopy → Bool
 is_same_copy a b = (a.from == b.from) && (a.to == b.to) && bytes_eq a.packet b.packet
 
--- a copy that is shown joins the flight. One that is there already has to be the same
+-- a copy that is shown joins the copies in flight. If a copy of its number is there already, it has
+-- to be the same
 abbrev pub with_shown : Reading → ℕ → FlyingCopy → Option FlyingCopy → Option LineOutcome
 with_shown r id shown None = Some (joined r id shown)
 with_shown r id shown (Some known) = told_if (is_same_copy shown known) r
@@ -148,7 +150,7 @@ abbrev pub frame_of : Reading → Bool → FlyingCopy → Frame
 frame_of r lost c =
     record { event = r.events; from = c.from; to = c.to; lost = lost; packet = c.packet }
 
--- the copy of this number leaves the flight, from here to there
+-- the copy of this number, with this sender and this receiver, is no longer in flight
 abbrev pub end_outcome : Reading → Bool → ℕ → ℕ × ℕ → Option FlyingCopy → Option LineOutcome
 end_outcome r lost id ends None = None
 end_outcome r lost id ends (Some c) =
@@ -164,16 +166,16 @@ after_end r lost id words =
 
 -- ---- lines with two spaces before them
 
--- one event more, with these lines below it
+-- one more event, with these lines below it
 abbrev pub event_outcome : Reading → Below → LineOutcome
 event_outcome r below = no_frame (record r { events = r.events + 1; below = below })
 
--- a link that comes or goes with a node that moves is an event
+-- a link that is made or cut as a node comes to its place is an event
 abbrev pub after_link : Reading → List (List ℕ) → Option LineOutcome
 after_link r words =
     if are (Address ∷ Address ∷ []) words then Some (event_outcome r Place) else None
 
--- an effect by its first word, below such a line
+-- an effect by its first word, below a line that has this below it
 abbrev pub effect_below : Reading → Below → List ℕ → List (List ℕ) → Option LineOutcome
 effect_below r Nothing word words = None
 effect_below r Link word words = told_if (is_idle word words) r
@@ -219,6 +221,6 @@ line_by r line =
     if bytes_eq (take 2 line) (codes "  ") then effect r (parts 32 (drop 2 line))
     else outer r (parts 32 line)
 
--- what one more line tells. None: it is refused
+-- what one more line comes to; None if it is refused
 unfoldable pub after_line : Reading → List ℕ → Option LineOutcome
 after_line r line = line_by (record r { lines = r.lines + 1 }) line

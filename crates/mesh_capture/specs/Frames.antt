@@ -6,7 +6,8 @@ use Rattle.aodv_wire.specs.Encodes.{is_data}
 use Rattle.mesh_capture.specs.declared.frame.Frame.{Frame}
 use Rattle.mesh_capture.specs.declared.frame.TheConstants.{AODV_PORT, DATA_PORT, LINK_TYPE}
 
--- the sum of the 16-bit words of some bytes; a last byte alone is the high byte of its word
+-- the sum of the 16-bit words of some bytes; a last byte without a partner is the high byte of its
+-- word
 unfoldable pub words_sum : List ℕ → ℕ
 words_sum [] = 0
 words_sum (high ∷ []) = 256 * high
@@ -17,13 +18,13 @@ abbrev pub carry : ℕ → ℕ
 carry zero = 0
 carry (suc n) = suc (n % 65535)
 
--- the checksum of the internet (RFC 1071)
+-- the Internet checksum (RFC 1071)
 abbrev pub checksum : List ℕ → ℕ
 checksum bytes = 65535 - carry (words_sum bytes)
 
 -- ---- the datagram
 
--- both ports of a packet: data have a port of their own
+-- the source and destination port of a packet: data packets have a port of their own
 abbrev pub port_of : List ℕ → ℕ
 port_of packet = if is_data packet then DATA_PORT else AODV_PORT
 
@@ -36,7 +37,7 @@ datagram_with sum f =
     big_bytes 2 (port_of f.packet) ++ big_bytes 2 (port_of f.packet)
     ++ big_bytes 2 (datagram_size f) ++ big_bytes 2 sum ++ f.packet
 
--- the addresses, the protocol and the size, which the checksum covers too
+-- the addresses, the protocol and the size, which the datagram's checksum covers too
 abbrev pub pseudo_header : Frame → List ℕ
 pseudo_header f =
     big_bytes 4 f.from ++ big_bytes 4 f.to ++ 0 ∷ 17 ∷ big_bytes 2 (datagram_size f)
@@ -57,7 +58,7 @@ datagram f = datagram_with (datagram_checksum f) f
 abbrev pub packet_size : Frame → ℕ
 packet_size f = 20 + datagram_size f
 
--- the identification tells a lost copy
+-- the identification of the packet: 1 for a copy that was lost
 abbrev pub mark_of : Bool → ℕ
 mark_of lost = if lost then 1 else 0
 
@@ -73,15 +74,15 @@ header f = header_with (checksum (header_with 0 f)) f
 
 -- ---- the file
 
--- the header of the file, in the classic form of pcap: its mark, version 2.4, no time zone, no
--- accuracy, the longest packet, and raw IPv4 as the type of link
+-- the header of the file, in the classic pcap format: its magic number, version 2.4, no time zone,
+-- no accuracy, the longest packet, and raw IPv4 as the link type
 unfoldable pub file_header : List ℕ
 file_header =
     big_bytes 4 2712847316 ++ big_bytes 2 2 ++ big_bytes 2 4 ++ big_bytes 4 0 ++ big_bytes 4 0
     ++ big_bytes 4 65535 ++ big_bytes 4 LINK_TYPE
 
--- before a packet in the file: the seconds and microseconds of its time, which is the event's
--- number in milliseconds, how much of it there is and how much there was
+-- what comes before a packet in the file: the seconds and microseconds of its time, which is the
+-- event's number in milliseconds; and the packet's size, in the file and as it was sent
 abbrev pub record_header : Frame → List ℕ
 record_header f =
     big_bytes 4 (f.event / 1000) ++ big_bytes 4 (1000 * (f.event % 1000))

@@ -1,5 +1,5 @@
--- What is kept while a text is read: no packet is longer than a mesh may send, and the lines are
--- few enough for their times. Of these only the number of lines stands in a public contract.
+-- What holds while a text is read: no packet is longer than a mesh may send, and there are few
+-- enough lines for the times of their events. Public contracts cite only the number of lines.
 use Rattle.std.specs.Prelude.{ℕ, ◌^◌, List, [], ◌∷◌, ⊤}
 use Rattle.mesh_lines.specs.Packets.{IsShort}
 use Rattle.mesh_capture.specs.declared.copies.FlyingCopy.{FlyingCopy}

@@ -17,7 +17,7 @@ use Rattle.mesh_capture.specs.Frames.{words_sum, carry, header, datagram, pseudo
 
 -- ---- what a receiver of a packet checks
 
--- the words of the header sum to all ones
+-- the 16-bit words of the header sum to all ones
 abbrev pub HeadersSumToAllOnes : Type 0
 HeadersSumToAllOnes = (f : Frame) → carry (words_sum (header f)) ≡ 65535
 
@@ -26,14 +26,15 @@ abbrev pub DatagramsSumToAllOnes : Type 0
 DatagramsSumToAllOnes =
     (f : Frame) → carry (words_sum (pseudo_header f ++ datagram f)) ≡ 65535
 
--- a packet has as many bytes as it says, after the 16 that tell its time and its sizes
+-- a packet has as many bytes as it says, after the 16 that hold its time and its sizes
 abbrev pub PacketsAreAsLongAsTheySay : Type 0
 PacketsAreAsLongAsTheySay = (f : Frame) → length (record_of f) ≡ 16 + packet_size f
 
 -- ---- the text of a run
 
--- the text of a run has as its capture the packets of the copies that its events deliver and lose,
--- and no line of it is refused: where neither a line of the text nor the whole goes past its limit
+-- if neither a line of a run's text nor the whole text goes past its limit, the text's capture has
+-- the packets of the copies that the run's events deliver and lose, and no line of the text is
+-- refused
 abbrev pub RunIsCaptured : Type 0
 RunIsCaptured = (variant : Variant) (input : List ℕ) →
     let text = whole (text_of_input variant input) in
@@ -41,8 +42,8 @@ RunIsCaptured = (variant : Variant) (input : List ℕ) →
     → (whole (capture_of text) ≡ file_of (frames_of_input variant input))
     × ((capture_of text).verdict ≡ Done)
 
--- so has the text of a watched run with blocks: they tell of no copy, and none of their lines is
--- refused
+-- the same for the text of a watched run with blocks: these say nothing about copies, and none of
+-- their lines is refused
 abbrev pub WatchedRunIsCaptured : Type 0
 WatchedRunIsCaptured = (variant : Variant) (input : List ℕ) →
     let text = whole (watched_of_input Blocks variant input) in
@@ -50,8 +51,8 @@ WatchedRunIsCaptured = (variant : Variant) (input : List ℕ) →
     → (whole (capture_of text) ≡ file_of (frames_of_input variant input))
     × ((capture_of text).verdict ≡ Done)
 
--- so has the text of a run with places, whatever the reach: there each link that comes or goes is
--- an event too
+-- the same for the text of a run with places, whatever the reach: each link that is made or cut as
+-- a node comes to its place is an event too
 abbrev pub RunWithPlacesIsCaptured : Type 0
 RunWithPlacesIsCaptured = (reach : ℕ) (variant : Variant) (input : List ℕ) →
     let text = whole (places.text_of_input reach variant input) in

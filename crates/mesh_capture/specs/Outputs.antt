@@ -1,5 +1,5 @@
--- What was told of a text: what the source has left, and what the two sinks held before and hold
--- now.
+-- What was written and answered for a text: what the source has left, and what the two sinks held
+-- before and hold now.
 use Rattle.std.specs.Prelude.{ℕ, ◌≡◌, List, [], codes, Option, Result, Ok, Err, ⊤}
 use Rattle.std.specs.Io.KnownBytes.{Appends}
 use Rattle.mesh_grammar.specs.Written.{line, label_number}
@@ -18,14 +18,14 @@ use Rattle.mesh_capture.specs.declared.status.CaptureStatus.TheVariants.{Done, U
 
 -- ---- the file
 
--- what was told of a text whose capture has answered this
+-- what was written to the file for a text whose capture has answered this
 abbrev pub IsCaptured : List ℕ → (left before now : Option (List ℕ))
     → Result CaptureVerdict Fault → Type 0
 IsCaptured text left before now answer =
     IsOutputFrom capture text_limits nothing_read text left before now answer
 
--- the same by status: the whole file with its verdict; or the header and the packets of the lines
--- that were read whole before a failed read; or a prefix of the file
+-- what was written to the file, by status: the whole file with its verdict; or the header and the
+-- packets of the lines that were read whole before a failed read; or a prefix of the file
 abbrev pub IsFile : List ℕ → (left before now : Option (List ℕ)) → CaptureStatus → Type 0
 IsFile text left before now Done = IsCaptured text left before now (Ok verdict.Done)
 IsFile text left before now (BadLine n) = IsCaptured text left before now (Ok (verdict.BadLine n))
@@ -34,7 +34,7 @@ IsFile text left before now WriteFault = IsCaptured text left before now (Err fa
 IsFile text left before now NoMemory = IsCaptured text left before now (Err fault.NoMemory)
 IsFile text left before now Usage = ⊥
 
--- ---- what is said beside it
+-- ---- what is said besides the file
 
 -- the line that names a refused line
 unfoldable pub bad_line : ℕ → List ℕ
@@ -55,7 +55,7 @@ IsSaid before now c WriteFault = AppendsPrefix before now (refusal_line c.verdic
 IsSaid before now c NoMemory = now ≡ before
 IsSaid before now c Usage = now ≡ before
 
--- a refusal was said, or a prefix of it
+-- the line of a refusal was written, or a prefix of it after a failed write
 abbrev pub IsRefused : Option (List ℕ) → Option (List ℕ) → ℕ → CaptureStatus → Type 0
 IsRefused before now n Done = ⊥
 IsRefused before now n Usage = ⊥
@@ -66,7 +66,7 @@ IsRefused before now n NoMemory = ⊥
 
 -- ---- the answer
 
--- the whole text was read, or up to the line that is refused
+-- the text was read whole, or up to the line that is refused
 abbrev pub IsDecided : CaptureStatus → Type 0
 IsDecided Done = ⊤
 IsDecided (BadLine n) = ⊤

@@ -18,8 +18,8 @@ use mesh_shell::{Fault, Limit, Script};
 use std::alloc::Global;
 use std::marker::Model;
 
-/// A capture between two lines of its text: the copies that the lines above tell of, and where the
-/// bytes of one packet are put together.
+/// A capture between two lines of its text: what the lines above say about copies, and a buffer in
+/// which the bytes of one packet are put together.
 #[derive(Drop)]
 pub struct Capturing {
     copies: Copies,
@@ -35,7 +35,7 @@ impl Model for Capturing {
 }
 
 impl Capturing {
-    /// Nothing was read. No memory is taken yet.
+    /// Nothing is read yet, and no memory taken.
     pub fn new(alloc: Global) -> Capturing
         ensures { result ≡ nothing_read }
     {
@@ -46,7 +46,7 @@ impl Capturing {
     }
 }
 
-// Writes the packet of the copy that a line has ended, if it has.
+// Writes the packet of the copy that a line has ended, if it has ended one.
 fn put_ended<O: Sink>(frame: Option<Frame>, buf: &mut FrameBuf, out: &mut O) -> Result<(), PutFault>
     requires short { IfSome frame (λ f. length f.packet ≤ LONGEST_PACKET) }
     requires soon { IfSome frame (λ f. f.event ≤ most_lines) }

@@ -1,4 +1,4 @@
-//! What the lines of a printed text tell of copies, line by line.
+//! What the lines of a printed text say about copies, line by line.
 ghost use Rattle.std.specs.Prelude.{◌≡◌, ◌≤◌, ◌+◌, ◌<◌, true, false, Some, None, OnOk, IfOk, IfErr, IfSome, IsErrOf, is_some};
 ghost use Rattle.std.specs.Map.{remove_entry};
 ghost use Rattle.std.specs.Ordering.{nat_cmp};
@@ -22,17 +22,17 @@ use std::marker::Model;
 /// A copy in flight.
 #[derive(Drop)]
 pub struct FlyingCopy {
-    /// The address of its sender.
+    /// The address of the copy's sender.
     pub from: u32,
-    /// The address of its receiver.
+    /// The address of the copy's receiver.
     pub to: u32,
-    /// The packet of its cast.
+    /// The packet of the copy's cast.
     pub packet: SharedPacket,
 }
 
-/// What the lines read so far tell. It takes memory for the copies in flight and for their packets:
-/// one for each cast, which its copies and their doubles share, and one for each copy of which
-/// `flight` tells first.
+/// What is known from the lines read so far. It takes memory for the copies in flight and for their
+/// packets: one packet for each cast, which the copies of the cast and their doubles share, and one
+/// for each copy that a `flight` line is the first to show.
 #[derive(Drop)]
 pub struct Copies {
     alloc: Global,
@@ -61,7 +61,7 @@ impl Model for Copies {
         × IsShortBelow c.below × AreShort c.flying.entries };
 }
 
-// What a line tells that tells nothing of copies.
+// What is read of a line that says nothing about copies: it is refused if it isn't of its form.
 fn told(of_form: bool) -> Result<Option<Frame>, ReadError>
     ensures done { IfOk result (λ frame. (of_form ≡ true) × (frame ≡ None)) }
     ensures bad { IfErr result (λ e. of_form ≡ false) }
@@ -73,7 +73,7 @@ fn told(of_form: bool) -> Result<Option<Frame>, ReadError>
     }
 }
 
-// Another one of a copy in flight, for the same receiver.
+// A double of a copy in flight, which has the same receiver.
 #[tactic(auto, using(crate::proofs::Kept::short_found))]
 fn doubled_copy(
     flying: &BTreeMap<u64, FlyingCopy>,
@@ -100,7 +100,7 @@ fn doubled_copy(
     })
 }
 
-// A copy joins the flight, unless one of this number is there.
+// A copy joins the copies in flight. It is refused if one of this number is in flight.
 #[tactic(auto, using(crate::proofs::Kept::short_insert))]
 fn put_copy(
     flying: &mut BTreeMap<u64, FlyingCopy>,
@@ -123,7 +123,7 @@ fn put_copy(
     }
 }
 
-// A copy that `flight` shows, and its number.
+// A copy that a line below `flight` shows, and its number.
 fn shown_copy(alloc: Global, words: Option<&[u8]>) -> Result<(u64, FlyingCopy), ReadError>
     ensures done { IfOk result (λ shown.
         copies.shown_copy (rest_parts 32 words.entry) ≡ Some shown) }
@@ -141,14 +141,14 @@ fn shown_copy(alloc: Global, words: Option<&[u8]>) -> Result<(u64, FlyingCopy), 
     Ok((id, FlyingCopy { from, to, packet }))
 }
 
-// The same sender, receiver and packet.
+// Whether two copies have the same sender, receiver and packet.
 fn is_same_copy(a: &FlyingCopy, b: &FlyingCopy) -> bool
     ensures { result ≡ copies.is_same_copy a.now b.now }
 {
     a.from == b.from && a.to == b.to && is(a.packet.as_slice(), b.packet.as_slice())
 }
 
-// A copy leaves the flight.
+// Takes a copy from the copies in flight, if one of this number is there.
 fn take_copy(flying: &mut BTreeMap<u64, FlyingCopy>, id: u64) -> Option<FlyingCopy>
     requires { AreShort flying.old.entries }
     ensures value { result ≡ copies.copy_in flying.old.entries id }
@@ -161,7 +161,7 @@ fn take_copy(flying: &mut BTreeMap<u64, FlyingCopy>, id: u64) -> Option<FlyingCo
 }
 
 impl Copies {
-    /// Nothing was read. No memory is taken yet.
+    /// Nothing is read yet, and no memory taken.
     pub fn new(alloc: Global) -> Copies
         ensures { result ≡ copies.nothing_read }
     {
@@ -181,7 +181,7 @@ impl Copies {
         self.lines
     }
 
-    // One event more, with its effects below it.
+    // Counts one more event, with its effects below it.
     fn count(&mut self, below: Below)
         requires few { self.old.events < self.old.lines }
         requires short { IsShortBelow below }
@@ -191,7 +191,7 @@ impl Copies {
         self.below = below;
     }
 
-    // A packet is cast.
+    // Reads the words of `sent`: a packet is cast.
     fn sent(&mut self, words: Option<&[u8]>) -> Result<(), ReadError>
         ensures done { OnOk result
             (copies.after_sent self.old self.old.below (rest_parts 32 words.entry)
@@ -209,7 +209,7 @@ impl Copies {
         }
     }
 
-    // A new copy: of what was cast, or of the copy that is doubled.
+    // A new copy for this receiver: of what was cast, or of the copy that is doubled.
     fn new_copy(&self, to: u32) -> Result<FlyingCopy, ReadError>
         ensures done { IfOk result (λ copy.
             copies.new_copy self.now.flying self.now.below to ≡ Some copy) }
@@ -228,7 +228,7 @@ impl Copies {
         }
     }
 
-    // A copy joins the flight.
+    // Reads the words of `copy` below an event: a new copy joins the copies in flight.
     fn copy(&mut self, words: Option<&[u8]>) -> Result<(), ReadError>
         ensures done { OnOk result
             (copies.after_copy self.old self.old.below
@@ -245,7 +245,8 @@ impl Copies {
         put_copy(&mut self.flying, id, copy)
     }
 
-    // A copy that `flight` shows joins the flight, or is the same as the one of its number there.
+    // Reads the words of `copy` below `flight`: the copy joins the copies in flight, unless one of
+    // its number is there already, which then has to be the same.
     fn shown(&mut self, words: Option<&[u8]>) -> Result<(), ReadError>
         ensures done { OnOk result
             (copies.after_shown self.old (copies.shown_copy (rest_parts 32 words.entry))
@@ -262,7 +263,7 @@ impl Copies {
         }
     }
 
-    // A copy leaves the flight.
+    // Reads the words of `heard` or `lost`: the copy of this number is no longer in flight.
     fn end(&mut self, lost: bool, id: u64, words: Option<&[u8]>) -> Result<Frame, ReadError>
         ensures done { IfOk result (λ frame.
             copies.after_end self.old lost id (rest_parts 32 words.entry)
@@ -292,7 +293,7 @@ impl Copies {
         })
     }
 
-    // A link has come or gone with a node.
+    // Reads the words of a link that was made or cut as a node came to its place: one more event.
     fn link(&mut self, words: Option<&[u8]>) -> Result<(), ReadError>
         requires few { self.old.events < self.old.lines }
         ensures done { OnOk result
@@ -309,7 +310,7 @@ impl Copies {
         Ok(())
     }
 
-    // An effect, without the two spaces before it.
+    // Reads an effect, without the two spaces before it.
     fn effect(&mut self, text: &[u8]) -> Result<Option<Frame>, ReadError>
         requires few { self.old.events < self.old.lines }
         ensures done { IfOk result (λ frame. copies.effect self.old (parts 32 text.now)
@@ -352,7 +353,7 @@ impl Copies {
         }
     }
 
-    // A line without two spaces before it.
+    // Reads a line without two spaces before it.
     fn outer(&mut self, line: &[u8]) -> Result<(), ReadError>
         requires few { self.old.events < self.old.lines }
         ensures done { OnOk result (copies.outer self.old (parts 32 line.now)
@@ -373,8 +374,8 @@ impl Copies {
         Ok(())
     }
 
-    /// Reads one more line: the copy that it ends, if it does. After an error nothing is said of
-    /// the copies.
+    /// Reads one more line, and returns the copy that it ends, if it ends one. After an error
+    /// nothing is known of the copies.
     #[tactic(auto, unfolding(crate::specs::Copies::after_line))]
     pub fn read(&mut self, line: &[u8]) -> Result<Option<Frame>, ReadError>
         requires { self.old.lines < most_lines }

@@ -18,27 +18,27 @@ pub const AODV_PORT: u16 = 654;
 /// The UDP port of data packets.
 pub const DATA_PORT: u16 = 49654;
 
-/// The type of link of the capture: raw IPv4 packets.
+/// The link type of the capture: raw IPv4 packets.
 pub const LINK_TYPE: u32 = 228;
 
 // Room for the longest packet and its headers, in bytes.
 const CAPACITY: usize = 2048;
 
-/// Where the bytes of one packet are put together.
+/// A buffer in which the bytes of one packet are put together.
 pub type FrameBuf = ArrayVec<u8, CAPACITY>;
 
 /// A copy that was heard or lost.
 #[derive(Drop)]
 pub struct Frame {
-    /// The number of the event that ended it, counted from 1.
+    /// The number of the event that ended the copy, counted from 1.
     pub event: u64,
-    /// The address of its sender.
+    /// The address of the copy's sender.
     pub from: u32,
-    /// The address of its receiver.
+    /// The address of the copy's receiver.
     pub to: u32,
-    /// It was lost.
+    /// Whether the copy was lost.
     pub lost: bool,
-    /// Its packet.
+    /// The copy's packet.
     pub packet: SharedPacket,
 }
 
@@ -85,7 +85,7 @@ fn first_word(bytes: &[u8]) -> u32
     256 * u32::from(bytes[0]) + u32::from(bytes[1])
 }
 
-// The sum of 16-bit words. A last byte alone is the high byte of its word.
+// The sum of the 16-bit words. A last byte without a partner is the high byte of its word.
 #[tactic(auto, using(crate::proofs::Sums::sum_one, crate::proofs::Sums::sum_none))]
 fn words_sum(bytes: &[u8]) -> u32
     requires { length bytes.now ≤ CAPACITY }
@@ -104,7 +104,7 @@ fn words_sum(bytes: &[u8]) -> u32
     sum + 256 * u32::from(rest[0])
 }
 
-// What goes past 16 bits is added again.
+// A sum in ones' complement: what goes past 16 bits is added again.
 fn carried(sum: u32) -> u16
     ensures { result ≡ frames.carry sum }
 {
@@ -114,7 +114,7 @@ fn carried(sum: u32) -> u16
     }
 }
 
-// The checksum of the internet.
+// The Internet checksum (RFC 1071).
 fn checksum(bytes: &[u8]) -> u16
     requires { length bytes.now ≤ CAPACITY }
     ensures { result ≡ frames.checksum bytes.now }
@@ -122,7 +122,7 @@ fn checksum(bytes: &[u8]) -> u16
     65535 - carried(words_sum(bytes))
 }
 
-// A checksum of 0 says that there is none.
+// A checksum of 0 is sent as 65535, since 0 says that there is none.
 fn sent_checksum(sum: u16) -> u16
     ensures { result ≡ frames.sent_checksum sum }
 {
@@ -158,7 +158,7 @@ pub fn put_file_header(out: &mut FrameBuf)
 }
 
 impl Frame {
-    // How many bytes the datagram has.
+    // The size of the datagram in bytes.
     fn datagram_size(&self) -> u16
         requires { length self.now.packet ≤ LONGEST_PACKET }
         ensures { result ≡ frames.datagram_size self.now }
@@ -166,7 +166,7 @@ impl Frame {
         8 + self.packet.as_slice().len() as u16
     }
 
-    // How many bytes the packet has.
+    // The size of the IPv4 packet in bytes.
     fn packet_size(&self) -> u16
         requires { length self.now.packet ≤ LONGEST_PACKET }
         ensures { result ≡ frames.packet_size self.now }
@@ -174,14 +174,14 @@ impl Frame {
         20 + self.datagram_size()
     }
 
-    // Whether it was lost, as a number.
+    // Whether the copy was lost, as a number: 1 or 0.
     fn mark(&self) -> u16
         ensures { result ≡ frames.mark_of self.now.lost }
     {
         u16::from(self.lost)
     }
 
-    // The seconds of its time.
+    // The whole seconds of the packet's time.
     fn seconds(&self) -> u32
         requires { self.now.event / 1000 < 2 ^ 32 }
         ensures { result ≡ self.now.event / 1000 }
@@ -189,7 +189,7 @@ impl Frame {
         (self.event / 1000) as u32
     }
 
-    // The microseconds past them.
+    // The microseconds of the packet's time after the whole seconds.
     fn microseconds(&self) -> u32
         ensures { result ≡ 1000 * (self.now.event % 1000) }
     {
@@ -213,7 +213,7 @@ impl Frame {
         put(packet, out);
     }
 
-    // Appends what the checksum of the datagram covers besides.
+    // Appends the pseudo-header, which the datagram's checksum covers too.
     fn put_pseudo_header(&self, out: &mut FrameBuf)
         requires short { length self.now.packet ≤ LONGEST_PACKET }
         requires room { array_vec_len out.old + 12 ≤ CAPACITY }
@@ -226,7 +226,7 @@ impl Frame {
         put_u16(self.datagram_size(), out);
     }
 
-    // Appends the header of the packet with this checksum.
+    // Appends the header of the IPv4 packet with this checksum.
     fn put_header_with(&self, sum: u16, out: &mut FrameBuf)
         requires short { length self.now.packet ≤ LONGEST_PACKET }
         requires room { array_vec_len out.old + 20 ≤ CAPACITY }
@@ -242,7 +242,7 @@ impl Frame {
         put_u32(self.to, out);
     }
 
-    // Appends what stands before the packet in the file: its time and its sizes.
+    // Appends what comes before the packet in the file: its time and its sizes.
     fn put_record(&self, out: &mut FrameBuf)
         requires short { length self.now.packet ≤ LONGEST_PACKET }
         requires soon { self.now.event / 1000 < 2 ^ 32 }
@@ -257,7 +257,7 @@ impl Frame {
         put_u32(size, out);
     }
 
-    // The checksum of the datagram, which is put together for it.
+    // The checksum of the datagram, which is put together in `scratch`.
     fn datagram_checksum(&self, scratch: &mut FrameBuf) -> u16
         requires { length self.now.packet ≤ LONGEST_PACKET }
         ensures { result ≡ frames.datagram_checksum self.now }
@@ -268,7 +268,7 @@ impl Frame {
         sent_checksum(checksum(scratch.as_slice()))
     }
 
-    // The checksum of the header, which is put together for it.
+    // The checksum of the IPv4 header, which is put together in `scratch`.
     fn header_checksum(&self, scratch: &mut FrameBuf) -> u16
         requires { length self.now.packet ≤ LONGEST_PACKET }
         ensures { result ≡ frames.checksum (frames.header_with 0 self.now) }
@@ -278,7 +278,7 @@ impl Frame {
         checksum(scratch.as_slice())
     }
 
-    // Appends the packet with these checksums, as it stands in the file.
+    // Appends the packet with these checksums, as it is in the file.
     fn put_with(&self, header: u16, datagram: u16, out: &mut FrameBuf)
         requires short { length self.now.packet ≤ LONGEST_PACKET }
         requires soon { self.now.event / 1000 < 2 ^ 32 }
@@ -291,9 +291,9 @@ impl Frame {
         self.put_datagram_with(datagram, out);
     }
 
-    /// Puts the packet as it stands in the file in the place of what the buffer holds. The
-    /// packet of the copy is one that a mesh may send, and the event's number in milliseconds is
-    /// less than 2^32 seconds.
+    /// Replaces what the buffer holds by the packet as it is in the file. The copy's packet is no
+    /// longer than a mesh may send, and the event's number in milliseconds is less than 2^32
+    /// seconds.
     #[tactic(auto, unfolding(crate::specs::Frames::record_of, crate::specs::Frames::header, crate::specs::Frames::datagram))]
     pub fn put_into(&self, out: &mut FrameBuf)
         requires short { length self.now.packet ≤ LONGEST_PACKET }

@@ -1,7 +1,7 @@
 //! Laws of the definitions. Each function has an empty body and a contract that states a law.
 ghost use Rattle.mesh_capture.specs.Laws.{HeadersSumToAllOnes, DatagramsSumToAllOnes, PacketsAreAsLongAsTheySay, RunIsCaptured, WatchedRunIsCaptured, RunWithPlacesIsCaptured};
 
-/// The words of a packet's header sum to all ones, as its receiver checks.
+/// The 16-bit words of a packet's header sum to all ones, as its receiver checks.
 pub fn headers_sum_to_all_ones()
     ensures { HeadersSumToAllOnes }
 {}
@@ -16,19 +16,20 @@ pub fn packets_are_as_long_as_they_say()
     ensures { PacketsAreAsLongAsTheySay }
 {}
 
-/// The text of a run has as its capture the packets of the copies that its events deliver and
-/// lose, and no line of it is refused, where it is within the limits of a text.
+/// If the text of a run is within the limits of a text, its capture has the packets of the copies
+/// that the run's events deliver and lose, and none of its lines is refused.
 pub fn a_run_is_captured()
     ensures { RunIsCaptured }
 {}
 
-/// So has the text of a watched run: that of the run, with a block below each event that has
+/// The same holds for the text of a watched run, which also has a block below each event that has
 /// changed a node.
 pub fn a_watched_run_is_captured()
     ensures { WatchedRunIsCaptured }
 {}
 
-/// So has the text of a run of nodes with places, where links come and go with them.
+/// The same holds for the text of a run with places, in which links are made and cut as nodes come
+/// to their places.
 pub fn a_run_with_places_is_captured()
     ensures { RunWithPlacesIsCaptured }
 {}

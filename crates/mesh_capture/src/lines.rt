@@ -1,4 +1,4 @@
-//! What is written.
+//! What a capture writes.
 ghost use Rattle.std.specs.Prelude.{◌≤◌, ◌<◌, length};
 ghost use Rattle.mesh_base.specs.declared.limits.TheConstants.{LONGEST_PACKET};
 ghost use Rattle.mesh_io.specs.Cause.{HasCause};
@@ -11,7 +11,7 @@ use crate::frame::{Frame, FrameBuf, put_file_header};
 use mesh_base::{LineBuf, push_number, push_text};
 use mesh_io::{PutFault, Sink, put_all};
 
-/// Writes the header of the file, over the buffer.
+/// Writes the header of the file, which is put together in `buf`.
 pub fn put_header<O: Sink>(buf: &mut FrameBuf, out: &mut O) -> Result<(), PutFault>
     ensures text { Puts (O.held out.old) (O.held out.new) file_header result }
     ensures cause { HasCause (O.faults out.old) (O.faults out.new) result }
@@ -21,7 +21,7 @@ pub fn put_header<O: Sink>(buf: &mut FrameBuf, out: &mut O) -> Result<(), PutFau
     put_all(out, buf.as_slice())
 }
 
-/// Writes the packet of a copy, over the buffer. The copy is one that `put_into` takes.
+/// Writes the packet of a copy, which is put together in `buf`.
 pub fn put_frame<O: Sink>(frame: &Frame, buf: &mut FrameBuf, out: &mut O) -> Result<(), PutFault>
     requires short { length frame.now.packet ≤ LONGEST_PACKET }
     requires soon { frame.now.event ≤ most_lines }

@@ -1,5 +1,5 @@
-//! The program `mesh_capture`: it reads from standard input a text that an emulator's run has
-//! printed, and writes to standard output a capture, in the classic format of pcap, with one packet
+//! The program `mesh_capture`: it reads from standard input a text that a run of the emulator has
+//! printed, and writes to standard output a capture, in the classic pcap format, with one packet
 //! for each copy that was heard or lost. The top call, over any source and sinks, has the whole
 //! contract; `main` makes the adapters over the standard streams, and ends with the status of the
 //! answer.

@@ -1,4 +1,4 @@
-//! The packets that lines tell of.
+//! The packets that lines give.
 ghost use Rattle.std.specs.Prelude.{◌≡◌, Some, None, IfOk, IsErrOf};
 ghost use Rattle.mesh_base.specs.Parts.{rest_parts};
 ghost use Rattle.mesh_lines.specs.Packets.{IsShort};
@@ -13,22 +13,22 @@ use thiserror::Error;
 /// Why a line isn't read.
 #[derive(Clone, Copy, Debug, PartialEq, Eq, Error)]
 pub enum ReadError {
-    /// No text of a run has the line where it stands.
+    /// No text of a run has this line at this point.
     #[error("the line is refused")]
     BadLine,
-    /// Memory was asked for and not found.
+    /// Memory ran out, or a packet is shared so often that one more copy can't be counted.
     #[error("no memory for a packet")]
     NoMemory,
 }
 
-// A packet that a mesh may send.
+// Whether there are bytes, and no more than a mesh may send in one packet.
 fn is_packet(bytes: &[u8]) -> bool
     ensures { result ≡ copies.is_packet bytes.now }
 {
     !bytes.is_empty() && bytes.len() <= LONGEST_PACKET
 }
 
-// The same bytes, without memory where they are few.
+// The same bytes, kept without memory of their own if they are few.
 fn kept(bytes: Vec<u8>) -> Bytes
     ensures { result ≡ bytes.items }
 {
@@ -49,7 +49,7 @@ fn owned(alloc: Global, bytes: Bytes) -> Result<SharedPacket, ReadError>
     }
 }
 
-/// The packet that hexadecimal tells.
+/// The packet that a word gives in hexadecimal.
 pub fn packet_of(alloc: Global, word: &[u8]) -> Result<SharedPacket, ReadError>
     ensures done { IfOk result (λ packet. copies.packet_of word.now ≡ Some packet) }
     ensures bad { IsErrOf result ReadError.BadLine → copies.packet_of word.now ≡ None }
@@ -65,14 +65,14 @@ pub fn packet_of(alloc: Global, word: &[u8]) -> Result<SharedPacket, ReadError>
     }
 }
 
-// One receiver, or many.
+// Whether the words are `one` and an address, or `many` and addresses.
 fn are_receivers(kind: &[u8], receivers: &[u8]) -> bool
     ensures { result ≡ copies.are_receivers kind.now receivers.now }
 {
     (is(kind, b"one") && is_address(receivers)) || (is(kind, b"many") && are_addresses(receivers))
 }
 
-/// The packet of a cast, after `sent`.
+/// The packet of a cast, by the words after `sent`.
 pub fn cast_packet(alloc: Global, words: Option<&[u8]>) -> Result<SharedPacket, ReadError>
     ensures done { IfOk result (λ packet.
         copies.cast_packet (rest_parts 32 words.entry) ≡ Some packet) }
@@ -93,8 +93,8 @@ pub fn cast_packet(alloc: Global, words: Option<&[u8]>) -> Result<SharedPacket, 
     }
 }
 
-/// The packet of one copy more. It takes no memory: want of memory is answered where so many copies
-/// share it that one more can't be counted.
+/// The packet for one more copy. This takes no memory: `NoMemory` is answered if the packet is
+/// shared so often that one more copy can't be counted.
 pub fn shared(packet: &SharedPacket) -> Result<SharedPacket, ReadError>
     ensures done { IfOk result (λ same. same ≡ packet.now) }
     ensures memory { ¬ IsErrOf result ReadError.BadLine }

@@ -3,10 +3,10 @@ ghost use Rattle.std.specs.Prelude.{◌≡◌};
 
 use mesh_shell::{Fault, WordsError};
 
-/// What a capture comes to where nothing fails.
+/// What a capture comes to if nothing fails.
 #[derive(Clone, Copy)]
 pub enum CaptureVerdict {
-    /// Every line was read, and its packets were written.
+    /// Every line was read, and the packets were written.
     Done,
     /// This line, counted from 1, is refused. The packets of the lines above it were written.
     BadLine { line: u64 },
@@ -15,7 +15,7 @@ pub enum CaptureVerdict {
 /// What a capture came to.
 #[derive(Clone, Copy, PartialEq, Eq)]
 pub enum CaptureStatus {
-    /// Every line was read, and its packets were written.
+    /// Every line was read, and the packets were written.
     Done,
     /// The command line has a word.
     Usage,
@@ -25,7 +25,7 @@ pub enum CaptureStatus {
     ReadFault,
     /// A sink failed.
     WriteFault,
-    /// Memory was asked for and not found.
+    /// Memory ran out, or a packet is shared so often that one more copy can't be counted.
     NoMemory,
 }
 

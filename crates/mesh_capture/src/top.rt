@@ -13,7 +13,7 @@ use mesh_io::{Limits, Sink, Source, TEXT_CAPACITY};
 use mesh_shell::run;
 use std::alloc::Global;
 
-// Writes the capture of a source.
+// Writes the capture of the text that a source gives.
 fn write_file<I: Source, O: Sink>(alloc: Global, input: &mut I, out: &mut O) -> CaptureStatus
     ensures told { IfSome (I.left input.old) (λ text.
         IsFile text (I.left input.new) (O.held out.old) (O.held out.new) result) }
@@ -42,11 +42,11 @@ fn refuse<E: Sink>(line: u64, errors: &mut E) -> CaptureStatus
 }
 
 /// Writes to `out` the capture of the printed text that the source gives: one packet for each copy
-/// that was heard or lost. Where a line is refused, `out` has the capture of the lines above it,
-/// and `errors` a line `bad line N`.
+/// that was heard or lost. If a line is refused, the capture of the lines above it is written to
+/// `out`, and a line `bad line N` to `errors`.
 ///
-/// What is written to `out` is gathered in a buffer of 65536 bytes, and handed on when that is
-/// full, before each read of the source, and at the end, unless a write has failed.
+/// What is written to `out` is gathered in a buffer of 65536 bytes. It is handed on when the buffer
+/// is full, before each read of the source, and at the end, unless a write has failed.
 pub fn capture<I: Source, O: Sink, E: Sink>(
     alloc: Global,
     words: &[&str],
@@ -54,30 +54,31 @@ pub fn capture<I: Source, O: Sink, E: Sink>(
     out: &mut O,
     errors: &mut E,
 ) -> CaptureStatus
-    // There is a word: nothing is read or written.
+    // If there is a word, nothing is read or written.
     ensures usage_exactly_for_a_word { (result ≡ CaptureStatus.Usage) ↔ (0 < length words.now) }
     ensures untouched_with_a_word { result ≡ CaptureStatus.Usage
         → (input.new ≡ input.old) × (out.new ≡ out.old) × (errors.new ≡ errors.old) }
 
-    // What is written is the capture of the text, and the answer its verdict. After a failed
-    // write, or want of memory, it is a prefix of that file; after a failed read it is the header
-    // and the packets of the lines that were read whole.
+    // What is written to `out` is the capture of the text, and the answer is its verdict. After a
+    // failed write, or lack of memory, it is a prefix of that file; after a failed read it is the
+    // header and the packets of the lines that were read whole.
     ensures file_of_the_text { length words.now ≡ 0 → IfSome (I.left input.old) (λ text.
         IsFile text (I.left input.new) (O.held out.old) (O.held out.new) result) }
 
-    // Nothing is said but the line of a refusal, or a prefix of it after a failed write.
+    // Nothing is written to `errors` but the line of a refusal, or a prefix of that line after a
+    // failed write.
     ensures line_of_a_refusal { length words.now ≡ 0 → IfSome (I.left input.old) (λ text.
         IsSaid (E.held errors.old) (E.held errors.new) (capture_of text) result) }
 
-    // Whatever the text, nothing is said where no line is refused and no write fails.
+    // Whatever the text, nothing is written to `errors` if no line is refused and no write fails.
     ensures silent { ((n : ℕ) → result ≢ CaptureStatus.BadLine n)
         → result ≢ CaptureStatus.WriteFault → errors.new ≡ errors.old }
 
-    // Done only where the input was read to its end.
+    // `Done` only if the input was read to its end.
     ensures done_at_the_end { result ≡ CaptureStatus.Done → IsAtEnd (I.left input.new) }
 
-    // A fault is answered only where the source or a sink has failed in this call, and any other
-    // answer only where none has. Where both have, it is the sink's.
+    // A fault is answered only if the source or a sink has failed in this call, and any other
+    // answer only if none has. If the source and a sink have failed, the sink's fault is answered.
     ensures cause_of_read_fault { HasSourceCause (I.faults input.old) (I.faults input.new) result }
     ensures cause_of_write_fault { result ≡ CaptureStatus.WriteFault
         → Rose (O.faults out.old) (O.faults out.new)
@@ -87,7 +88,7 @@ pub fn capture<I: Source, O: Sink, E: Sink>(
     ensures no_other_fault_of_errors { result ≢ CaptureStatus.WriteFault
         → E.faults errors.new ≡ E.faults errors.old }
 
-    // Where nothing has failed the text is decided, unless memory runs out.
+    // If nothing has failed, the text is decided, unless memory runs out.
     ensures complete { length words.now ≡ 0
         → (Rose (I.faults input.old) (I.faults input.new) → ⊥)
         → (Rose (O.faults out.old) (O.faults out.new) → ⊥)

@@ -11,25 +11,25 @@ use Rattle.mesh_channel.specs.declared.until.Until.TheVariants.{Events, Tick}
 
 -- ---- what is due
 
--- a plan from the first copy on that is in flight: a line of the input may have delivered or lost
--- those before it
+-- a plan without the copies before the first one that is in flight: a line of the input may have
+-- delivered or lost them
 unfoldable pub in_flight : List Copy → Plan → Plan
 in_flight flying [] = []
 in_flight flying (d ∷ plan) =
     if is_some (find_copy flying d.id) then d ∷ plan else in_flight flying plan
 
--- the same channel, with such a plan
+-- the same channel, with its plan like that
 abbrev pub looked_at : World → Channel → Channel
 looked_at w c = record c { plan = in_flight w.flying c.plan }
 
 -- ---- the next event
 
--- an event that is chosen, and the channel once it is; or there is none
+-- an event that is chosen, and the channel after the choice; or no event, and the channel
 pub data Choice : Type 0 where
   Chosen : Event → Channel → Choice
   Nothing : Channel → Choice
 
--- the first copy of the plan is delivered, in its tick
+-- the first copy of the plan is delivered, and taken out of the plan
 abbrev pub delivery : Channel → Due → Plan → Choice
 delivery c d plan = Chosen (Deliver d.id) (record c { plan = plan })
 
@@ -41,11 +41,12 @@ abbrev pub send_or : Channel → Option (ℕ × ℕ) → Choice → Choice
 send_or c None others = others
 send_or c (Some p) others = Chosen (Send p.0 p.1) c
 
--- sends, and then requests, each by the least node and destination
+-- a send, or else a request, each at the least node and destination
 abbrev pub by_nodes : World → Channel → Choice
 by_nodes w c = send_or c (first_send w) (ask_or c (first_ask w))
 
--- a copy that is due in this tick, or else what a node may send
+-- the delivery of the first copy of the plan, if it is due by this tick; otherwise a send or a
+-- request
 abbrev pub due_or : World → Channel → Plan → Choice
 due_or w c [] = by_nodes w c
 due_or w c (d ∷ plan) = if nat_le d.tick c.tick then delivery c d plan else by_nodes w c
@@ -59,7 +60,7 @@ left_or c [] others = others
 left_or c (e ∷ es) others = Chosen e (record c { left = es })
 
 -- what is done next in a tick: what is decided and left to do, then a turn at the least node, then
--- the copy of the least number that is due, then a send, then a request
+-- the first copy that is due, then a send, then a request
 unfoldable pub in_tick : World → Channel → Choice
 in_tick w c =
     let looked = looked_at w c in
@@ -67,7 +68,7 @@ in_tick w c =
 
 -- ---- how long a line goes on
 
--- enough was done once a tick is over
+-- whether a line has done enough, once a tick is over
 abbrev pub is_enough : Until → ℕ → Bool
 is_enough (Events count) did = nat_le count did
 is_enough (Tick last) did = false
@@ -77,7 +78,7 @@ abbrev pub last_tick : Until → ℕ
 last_tick (Events count) = LAST_TICK
 last_tick (Tick last) = last
 
--- the last tick of a line that lets so many ticks pass
+-- how long a line goes on that lets this many ticks pass after this one
 abbrev pub tick_behind : ℕ → ℕ → Until
 tick_behind tick count = Tick (min (tick + count) LAST_TICK)
 
@@ -93,7 +94,7 @@ next_due until c (d ∷ plan) =
     if nat_le d.tick (last_tick until) then delivery (record c { tick = d.tick }) d plan else
     Nothing (at_end until c)
 
--- a tick is over
+-- what comes when a tick is over: nothing if the line has done enough, or else the next copy
 abbrev pub next_tick : Until → ℕ → Channel → Choice
 next_tick until did c =
     if is_enough until did then Nothing c else next_due until c c.plan
@@ -102,6 +103,6 @@ abbrev pub or_next_tick : Until → ℕ → Choice → Choice
 or_next_tick until did (Chosen e c) = Chosen e c
 or_next_tick until did (Nothing c) = next_tick until did c
 
--- the next event of a line that has done so many
+-- what comes next on a line that has done this many events
 unfoldable pub next_choice : Until → ℕ → World → Channel → Choice
 next_choice until did w c = or_next_tick until did (in_tick w c)

@@ -23,7 +23,7 @@ before e others = record others { events = e ∷ others.events }
 
 -- ---- an event of the input
 
--- it, and then what is decided of the copies that it made
+-- the event, and then what is decided of the copies that it made
 abbrev pub given : Rates → schedule.RunState → Event → Channel → Drawn
 given rates m e c =
     let after = after_given rates (world_of m) (outcome_at m e) c in
@@ -45,7 +45,7 @@ choice_then rates m (Chosen e c) others =
     event_then e (outcome_at m e) c
     (others (next_state m e) (after_chosen rates (world_of m) (outcome_at m e) c))
 
--- at most so many, from a state on at which the line has done some
+-- at most `most` events, from a state on in which the line has done `did` events
 unfoldable pub chosen_from : (most : ℕ) → Rates → Until → (did : ℕ) → schedule.RunState → Channel
     → Drawn
 chosen_from zero rates until did m c = none c
@@ -53,12 +53,12 @@ chosen_from (suc most) rates until did m c =
     choice_then rates m (next_choice until did (world_of m) c)
     (λ n after. chosen_from most rates until (did + 1) n after)
 
--- before anything has happened there is nothing to choose
+-- before the run has started there is nothing to choose
 abbrev pub chosen_in : Rates → Until → schedule.RunState → Option World → Channel → Drawn
 chosen_in rates until m None c = none c
 chosen_in rates until m (Some w) c =
     chosen_from (MOST_CHOSEN - m.steps) rates until 0 m c
 
--- those of a line, while a run has gone through fewer than MOST_CHOSEN events
+-- the events that a line chooses, as long as the run has gone through fewer than MOST_CHOSEN events
 abbrev pub chosen : Rates → Until → schedule.RunState → Channel → Drawn
 chosen rates until m c = chosen_in rates until m m.world c

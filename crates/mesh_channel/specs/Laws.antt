@@ -23,8 +23,8 @@ use Rattle.mesh_channel.specs.Runs.{events_of_input, opening_world, world_after}
 
 -- ---- the schedule's run
 
--- the run of the schedule ends where its input ends, or at a full counter, as the run over the
--- channel does; a line that is refused is none of the schedule
+-- the run of the chosen schedule ends as the run over the channel does: where its input ends, or at
+-- a full counter. A line that is refused is not in the schedule
 abbrev pub AreAlike : Verdict → Verdict → Type 0
 AreAlike Finished Finished = ⊤
 AreAlike Finished (RefusedAt n) = ⊤
@@ -35,8 +35,9 @@ AreAlike v u = ⊥
 abbrev pub AreSameBut : schedule.RunState → schedule.RunState → Type 0
 AreSameBut m n = m ≡ record n { lines = m.lines }
 
--- a run of a schedule has the lines of a run over a channel, and comes to the same. The last line
--- is the same where no line has ended the run
+-- a run of a schedule writes the same lines as a run over a channel, and ends alike. Its last line
+-- is the same if no line has ended the run over the channel; its state is the same, but for the
+-- number of lines, unless a full counter has ended that run
 pub record IsReplay (r : text.RunText) (w : RunText) : Type 0 where
   pub lines : r.lines ≡ w.lines
   pub verdict : AreAlike r.verdict w.verdict
@@ -53,15 +54,15 @@ ChosenScheduleIsReplayed = (rates : Rates) (variant : Variant) (seed : ℕ) (inp
 
 -- ---- the worlds
 
--- the world after the last allowed line is the one to which as many of the run's events lead as
--- were counted
+-- the world after the last allowed line is the one to which the run's first events, as many as were
+-- counted, lead
 abbrev pub WorldsAreOfEvents : Type 0
 WorldsAreOfEvents = (rates : Rates) (variant : Variant) (seed : ℕ) (input : List ℕ)
     → let w = text_of_input rates variant seed input in
     schedule.world_of w.after.run
     ≡ world_after rates variant seed input w.after.run.sums.events
 
--- after any number of them no destination's valid routes have a loop
+-- after any number of a run's events no destination's valid routes have a loop
 abbrev pub RunsOverChannelsAreLoopFree : Type 0
 RunsOverChannelsAreLoopFree =
     (rates : Rates) (variant : Variant) (seed : ℕ) (input : List ℕ) (k d : ℕ)
@@ -82,8 +83,9 @@ pub record IsLossless (rates : Rates) : Type 0 where
   pub loss_unicast : rates.loss_unicast ≡ 0
   pub double : rates.double ≡ 0
 
--- over such a channel no line `lose` or `copy` is chosen: each event that a line chooses is a turn,
--- a delivery, a send or a request, where nothing was left to do, and nothing is left to do after it
+-- over such a channel no line `lose` or `copy` is chosen: if nothing was left to do before a line,
+-- each event that it chooses is a turn, a delivery, a send or a request, and nothing is left to do
+-- after it
 abbrev pub LosslessChannelLosesNothing : Type 0
 LosslessChannelLosesNothing =
     (rates : Rates) (until : Until) (m : schedule.RunState) (c : Channel) → IsLossless rates
@@ -91,23 +93,23 @@ LosslessChannelLosesNothing =
     → let d = chosen rates until m c in
     AllByRecursion IsChoice d.events × (d.channel.left ≡ [])
 
--- and no line of the input has one behind its own event
+-- and no line of the input has another event after its own
 abbrev pub LosslessChannelAddsNothing : Type 0
 LosslessChannelAddsNothing =
     (rates : Rates) (m : schedule.RunState) (e : Event) (c : Channel) → IsLossless rates
     → c.left ≡ [] → (given rates m e c).events ≡ e ∷ []
 
--- none of these events is idle, each in the state after the one before it
+-- none of these events is idle in the state after those before it
 abbrev pub NoneIsIdle : schedule.RunState → List Event → Type 0
 NoneIsIdle m [] = ⊤
 NoneIsIdle m (e ∷ es) = (outcome_at m e ≢ Idle) × NoneIsIdle (next_state m e) es
 
--- no event that a line chooses is idle, where nothing was left to do
+-- no event that a line chooses is idle, if nothing was left to do
 abbrev pub ChosenEventsAreNotIdle : Type 0
 ChosenEventsAreNotIdle = (rates : Rates) (until : Until) (m : schedule.RunState) (c : Channel)
     → c.left ≡ [] → NoneIsIdle m (chosen rates until m c).events
 
--- nor is one that stands behind an event of the input
+-- nor is an event that is added after one of the input
 abbrev pub AddedEventsAreNotIdle : Type 0
 AddedEventsAreNotIdle = (rates : Rates) (m : schedule.RunState) (e : Event) (c : Channel)
     → c.left ≡ [] → let after = after_given rates (world_of m) (outcome_at m e) c in

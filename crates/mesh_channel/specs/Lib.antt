@@ -9,18 +9,18 @@ pub mod Chosen
 pub mod Lines
 -- Text: the text of a run over a channel, and its verdict.
 pub mod Text
--- Runs: its events, and the worlds that they lead through.
+-- Runs: the events of such a run, and the worlds that they lead through.
 pub mod Runs
--- Schedule: the schedule that it chooses.
+-- Schedule: the schedule that such a run chooses.
 pub mod Schedule
 -- Laws: what is proved of these definitions.
 pub mod Laws
--- Outputs: what was told of a run over a channel. This is what the contract of the top call cites.
+-- Outputs: what such a run has written and answered. The contract of the top call cites this.
 pub mod Outputs
 -- The others say what the parts of a run do.
 -- Room: how far lines can lead, and the room that they need.
 pub mod Room
--- RunStates: a run over a channel between two lines, and what was told of one line.
+-- RunStates: a run over a channel between two lines, and what is written for one line.
 pub mod RunStates
 -- Running: a run over a channel as a script.
 pub mod Running

@@ -12,18 +12,18 @@ use Rattle.mesh_channel.specs.declared.until.TheConstants.{MOST_TICKS}
 
 -- a line that is allowed
 pub data Line : Type 0 where
-  -- so many ticks pass
+  -- this many ticks pass
   Passes : (ticks : ℕ) → Line
   -- a line of a schedule
   Plain : AcceptedLine → Line
 
 -- ---- `pass NUM`
 
--- no line but a `node` line comes before the first node
+-- this many ticks pass; before the first node no line but a `node` line may come
 abbrev pub passing : Nodes → ℕ → Result (Option ℕ) LineFault
 passing mesh ticks = if length mesh == 0 then Err Early else Ok (Some ticks)
 
--- one number, the word at this byte
+-- one word, a number, which begins at this byte
 abbrev pub passing_at : Nodes → ℕ → List (List ℕ) → Result (Option ℕ) LineFault
 passing_at mesh at (word ∷ []) =
     with_argument (positive (number_up_to MOST_TICKS word)) (BadNumber (span_at at word))
@@ -35,7 +35,7 @@ passing_by mesh [] = Ok None
 passing_by mesh (w ∷ ws) =
     if bytes_eq w (codes "pass") then passing_at mesh (next_at 0 w) ws else Ok None
 
--- how many ticks a line lets pass, or its first fault; None where it is as in a schedule
+-- how many ticks a line lets pass, or its first fault; None if the line is as in a schedule
 unfoldable pub passing_of : Nodes → List ℕ → Result (Option ℕ) LineFault
 passing_of mesh line = passing_by mesh (parts 32 line)
 

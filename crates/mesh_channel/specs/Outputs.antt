@@ -1,4 +1,4 @@
--- What was told of a run over a channel: what the sink held before, and what it holds now.
+-- What a run over a channel has written and answered: what the sink held before, and holds now.
 use Rattle.std.specs.Prelude.{ℕ, ◌≡◌, List, map, Option, take}
 use Rattle.mesh_shell.specs.Pieces.{Whole}
 use Rattle.mesh_base.specs.declared.events.Variant.{Variant}
@@ -17,16 +17,16 @@ use Rattle.mesh_channel.specs.Runs.{events_of_input, opening_world, world_after}
 use Rattle.mesh_channel.specs.Laws.{IsReplay}
 use Rattle.mesh_channel.specs.declared.words.Options.{Options}
 
--- a run over a channel of these bytes from a state on has answered, where the source has this
--- left. After a failed read what was written is the text of the lines that were read whole
+-- a run over a channel of these bytes from a state on has answered, and the source has this left.
+-- After a failed read, what was written is the text of the lines that were read whole
 abbrev pub IsOutputFrom : Say → Rates → RunState → List ℕ → Option (List ℕ) → Option (List ℕ)
     → Option (List ℕ) → Status → Type 0
 IsOutputFrom say rates m bytes left before now s =
     IsOutputOf say (text_on rates m) bytes left before now s
 
--- the run of every input over every channel: `mesh run` replays the schedule that it chooses; the
--- world after it is the one to which its events lead; in no world to which they come has a
--- destination a loop; and in each of them every datum is accounted for
+-- what holds for the run of every input over every channel: `mesh run` replays the schedule that it
+-- chooses; the world after it is the one to which its events lead; in no world that they lead
+-- through does a destination have a loop; and in each of them every datum is accounted for
 pub record IsChannelRun (rates : Rates) (variant : Variant) (seed : ℕ) (input : List ℕ)
     : Type 0 where
   pub replayed : IsReplay
@@ -41,7 +41,7 @@ pub record IsChannelRun (rates : Rates) (variant : Variant) (seed : ℕ) (input 
       → IsAccountedAfter t (opening_world rates variant seed input)
       (take k (events_of_input rates variant seed input))
 
--- what was told of the input that a source had, which is that of such a run
+-- such a run of the input that a source had has written and answered this
 abbrev pub IsRun : Options → List ℕ → Option (List ℕ) → Option (List ℕ) → Option (List ℕ)
     → Status → Type 0
 IsRun o input left before now s =

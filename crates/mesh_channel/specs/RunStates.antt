@@ -1,4 +1,4 @@
--- A run over a channel between two lines, as the program has it, and what was told of one line.
+-- A run over a channel between two lines, as the program has it, and what is written for one line.
 use Rattle.std.specs.Prelude.{ℕ, ◌≡◌, ◌≢◌, ◌≤◌, ◌<◌, ◌+◌, ◌^◌, ◌⊎◌, true, false, List, [], Option, Some, None, Result, Ok, Err, OnOk, length}
 use Rattle.mesh_base.specs.Bounds.{most_steps}
 use Rattle.mesh_base.specs.Members.{member_list}
@@ -27,16 +27,17 @@ use Rattle.mesh_channel.specs.declared.channeled.Channeled.{Channeled}
 abbrev pub run_state_of : Channeled → RunState
 run_state_of p = record { run = p.point; channel = p.channel }
 
--- the run in another state
+-- this run, moved to another state
 abbrev pub moved : Channeled → RunState → Channeled
 moved p n = record p { point = n.run; channel = n.channel }
 
--- an event that is chosen, or none, and the channel then
+-- the choice of an event, or of none, with the channel after it
 abbrev pub choice_of : Option Event → Channel → Choice
 choice_of None c = choices.Nothing c
 choice_of (Some e) c = Chosen e c
 
--- what is left to do behind a choice: nothing, unless the event is one of those that were
+-- after a choice nothing is left to do; or there is no more than before, and a copy that the event
+-- loses or doubles has a number from 1 on
 abbrev pub IsLeftBehind : Channel → Option Event → Channel → Type 0
 IsLeftBehind c None k = k.left ≡ []
 IsLeftBehind c (Some e) k =
@@ -44,12 +45,12 @@ IsLeftBehind c (Some e) k =
 
 -- ---- one event
 
--- whether it was done, without what it did
+-- whether an event was done, without what it did
 abbrev pub told_of : {T : Type 0} → Result T Stop → Result (Unit {0}) Stop
 told_of (Ok done) = Ok tt
 told_of (Err stop) = Err stop
 
--- the same of events
+-- the same, in the form of an answer for several events, whose number is left out
 abbrev pub counted_of : {T : Type 0} → Result T Stop → Result ℕ Stop
 counted_of (Ok done) = Ok 0
 counted_of (Err stop) = Err stop
@@ -70,7 +71,7 @@ pub record HasAnswer (done : Done) : Type 0 where
   pub event : Event
   pub is : IsAnswerOf before event after done
 
--- what is decided of the copies of a cast, by what the event's answer says of it
+-- what is decided of the copies of a cast, by what the event's answer says of the cast
 abbrev pub decided_in_air : Rates → Cast → Air → Channel → Channel
 decided_in_air rates Nothing air c = c
 decided_in_air rates (One y) air c =
@@ -80,14 +81,15 @@ decided_in_air rates others air c =
     let count = length (member_list air.to) in
     decided rates false count air.first (air.first + count) c
 
--- the copies of a cast are numbered from 1 on, and few
+-- the copies of a cast, if it made any, are numbered from 1 on, and the first number is below 2^60
 abbrev pub HasNumbers : Cast → Air → Type 0
 HasNumbers cast air =
     cast ≢ Nothing → length (member_list air.to) ≢ 0 → (1 ≤ air.first) × (air.first < 2 ^ 60)
 
 -- ---- one line
 
--- what was told of a line that has led the run from p to q, of which the state alone has changed
+-- what was written and answered for a line that led the run from p to q, with only its state
+-- changed
 pub record IsRunOfLine (p q : Channeled) (bytes : List ℕ) (before now : Option (List ℕ))
     (result : Result (Unit {0}) Stop) : Type 0 where
   pub comes : IsLineRun (says_lines p.say) p.point

@@ -1,4 +1,4 @@
--- A run over a channel as a script: what its lines and its end make of its state.
+-- A run over a channel as a script: what each line and the end write, and the states they lead to.
 use Rattle.mesh_shell.specs.Fold.{Fold}
 use Rattle.mesh_text.specs.declared.verdict.Verdict.{Verdict}
 use Rattle.mesh_run.specs.Outputs.{says_lines}
@@ -7,7 +7,7 @@ use Rattle.mesh_channel.specs.Text.{channel_run}
 use Rattle.mesh_channel.specs.RunStates.{run_state_of, moved}
 use Rattle.mesh_channel.specs.declared.channeled.Channeled.{Channeled}
 
--- the run over the channel of these rates, as far as it is said
+-- the run over a channel of these rates; its `say` decides how much of the text is written
 abbrev pub running : Fold Channeled Verdict
 running = record {
   head = λ p. (channel_run p.rates).head (run_state_of p);

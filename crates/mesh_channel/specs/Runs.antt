@@ -20,12 +20,12 @@ abbrev pub events_by : Rates → RunState → Result Line LineFault → List Eve
 events_by rates m (Ok l) = (drawn_by rates m l).events
 events_by rates m (Err fault) = []
 
--- those of a line
+-- the events of a line
 unfoldable pub events_of_piece : Rates → RunState → Piece → List Event
 events_of_piece rates m (Whole bytes) = events_by rates m (line_at m bytes)
 events_of_piece rates m others = []
 
--- those of the lines, up to the first that isn't allowed
+-- the events of these lines, up to the first that isn't allowed
 unfoldable pub events_from : Rates → RunState → List Piece → List Event
 events_from rates m [] = []
 events_from rates m (piece ∷ pieces) =
@@ -43,7 +43,7 @@ events_of_input rates variant seed input =
 abbrev pub mesh_of_input : Rates → Variant → ℕ → List ℕ → Nodes
 mesh_of_input rates variant seed input = (text_of_input rates variant seed input).after.run.mesh
 
--- the opening world of them
+-- the opening world of these nodes
 abbrev pub opening_world : Rates → Variant → ℕ → List ℕ → World
 opening_world rates variant seed input =
     start variant (first_numbers (mesh_of_input rates variant seed input))

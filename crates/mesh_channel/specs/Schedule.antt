@@ -15,11 +15,11 @@ use Rattle.mesh_fates.specs.declared.rates.Rates.{Rates}
 use Rattle.mesh_channel.specs.Lines.{Line, Passes, Plain}
 use Rattle.mesh_channel.specs.Text.{RunState, opening, drawn_by, line_at, outcome_of_piece, next}
 
--- each event on a line
+-- the lines of these events
 abbrev pub event_lines : Nodes → List Event → List (List ℕ)
 event_lines mesh es = map (λ e. words_of mesh (Does e)) es
 
--- a line that has no events is taken over, but for a blank one
+-- a line without events is taken over, unless it is blank
 abbrev pub other_lines : Nodes → AcceptedLine → List (List ℕ)
 other_lines mesh Nothing = []
 other_lines mesh others = words_of mesh others ∷ []
@@ -32,17 +32,17 @@ lines_of rates m (Plain (Chooses count)) =
     event_lines m.run.mesh (drawn_by rates m (Plain (Chooses count))).events
 lines_of rates m (Plain others) = other_lines m.run.mesh others
 
--- one that is refused has none
+-- the lines for a line of the input that was read: none if it is refused
 abbrev pub lines_read : Rates → RunState → Result Line LineFault → List (List ℕ)
 lines_read rates m (Ok l) = lines_of rates m l
 lines_read rates m (Err fault) = []
 
--- the lines that stand in the place of a line of the input
+-- the lines that replace a line of the input
 unfoldable pub lines_chosen : Rates → RunState → Piece → List (List ℕ)
 lines_chosen rates m (Whole bytes) = lines_read rates m (line_at m bytes)
 lines_chosen rates m others = []
 
--- those of the lines that follow, unless the run has ended
+-- the lines for the rest of the input, unless the run has ended
 abbrev pub lines_after : LineOutcome → (schedule.RunState → List (List ℕ)) → List (List ℕ)
 lines_after (On text n) others = others n
 lines_after (Refused why) others = []

@@ -28,7 +28,7 @@ pub record RunState : Type 0 where
   pub run : schedule.RunState
   pub channel : Channel
 
--- before the first line
+-- the state before the first line
 abbrev pub opening : Variant → ℕ → RunState
 opening variant seed = record {
   run = schedule.opening variant;
@@ -45,12 +45,14 @@ drawn_by rates m (Plain (Does e)) = given rates (with_world m.run) e m.channel
 drawn_by rates m (Plain (Chooses count)) = chosen rates (Events count) m.run m.channel
 drawn_by rates m (Plain others) = none m.channel
 
--- these events, each with its own line; where there are none, the run hasn't started by them
+-- what these events come to, each written as a line of its own; if there are none, the run isn't
+-- started
 abbrev pub outcome_of_drawn : schedule.RunState → List Event → LineOutcome
 outcome_of_drawn m [] = On [] (with_line_read m)
 outcome_of_drawn m (e ∷ es) = outcome_by_events (outcome_of_events (with_world m) (e ∷ es))
 
--- an allowed line: its events; or a line of a schedule that has none
+-- what an allowed line comes to: its events; or, if it is a line without events, what it comes to
+-- in a schedule
 abbrev pub outcome_of_line : Rates → RunState → Line → LineOutcome
 outcome_of_line rates m (Passes ticks) =
     outcome_of_drawn m.run (drawn_by rates m (Passes ticks)).events
@@ -72,7 +74,7 @@ unfoldable pub outcome_of_piece : Rates → RunState → Piece → LineOutcome
 outcome_of_piece rates m (Whole bytes) = outcome_of_read rates m (line_at m bytes)
 outcome_of_piece rates m others = text.outcome_of_piece m.run others
 
--- the channel after it
+-- the channel after a line
 abbrev pub channel_by : Rates → RunState → Result Line LineFault → Channel
 channel_by rates m (Ok l) = (drawn_by rates m l).channel
 channel_by rates m (Err fault) = m.channel
@@ -81,7 +83,7 @@ unfoldable pub channel_after : Rates → RunState → Piece → Channel
 channel_after rates m (Whole bytes) = channel_by rates m (line_at m bytes)
 channel_after rates m others = m.channel
 
--- the state after a line that has led the run to this one
+-- the state after a line that has led the run to state n
 abbrev pub next : Rates → RunState → Piece → schedule.RunState → RunState
 next rates m piece n = record { run = n; channel = channel_after rates m piece }
 
@@ -96,18 +98,18 @@ RunText = shell.RunText RunState Verdict
 abbrev pub ending : RunState → shell.Ending RunState Verdict
 ending m = record { text = done_line m.run; verdict = Finished; after = m }
 
--- the same text or end, where the next state is made of the one of the run
+-- the same text or end, with the next state made from that of the run
 abbrev pub outcome_with : (schedule.RunState → RunState) → shell.Outcome schedule.RunState Verdict
     → shell.Outcome RunState Verdict
 outcome_with next_of (shell.On text n) = shell.On text (next_of n)
 outcome_with next_of (shell.Ended text last v) = shell.Ended text last v
 
--- how a line that comes to this goes on, or ends the run: as in a schedule
+-- how the run goes on after a line that comes to this, or ends: as in a schedule
 abbrev pub outcome_in_run : Rates → RunState → Piece → LineOutcome → shell.Outcome RunState Verdict
 outcome_in_run rates m piece k =
     outcome_with (next rates m piece) (text.outcome_in_run m.run k)
 
--- a run over a channel: nothing stands before the text of its first line
+-- a run over a channel: nothing is written before the text of its first line
 abbrev pub channel_run : Rates → shell.Fold RunState Verdict
 channel_run rates = record {
   head = λ m. [];
@@ -123,6 +125,6 @@ text_from rates m pieces = shell.text_from (channel_run rates) m pieces
 abbrev pub text_on : Rates → RunState → List ℕ → RunText
 text_on rates m input = shell.text_on (channel_run rates) schedule_limits m input
 
--- the same from the opening on
+-- the same from the opening state on
 unfoldable pub text_of_input : Rates → Variant → ℕ → List ℕ → RunText
 text_of_input rates variant seed input = text_on rates (opening variant seed) input

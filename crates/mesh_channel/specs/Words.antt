@@ -27,7 +27,7 @@ nothing_given = record {
   quiet = false;
 }
 
--- the value that an option takes where it has none yet
+-- the value that an option takes, if it has none yet
 abbrev pub first_given : {A : Type 0} → Option A → Option A → Option A
 first_given None value = value
 first_given (Some before) value = None
@@ -50,7 +50,7 @@ with_number g option value =
     then once g.double (number_up_to GREATEST_RATE value) (λ n. record g { double = Some n })
     else None
 
--- `--variant NAME`, `--seed NUM` or one of those
+-- `--variant NAME`, `--seed NUM` or one of those above
 abbrev pub with_value : Given → (option value : List ℕ) → Option Given
 with_value g option value =
     if bytes_eq option (codes "--variant")
@@ -72,8 +72,8 @@ given_by g (option ∷ value ∷ words) =
     then option_and_then (λ h. given_by h (value ∷ words)) (with_quiet g)
     else option_and_then (λ h. given_by h words) (with_value g option value)
 
--- what they ask for: the protocol as AWN has it, seed 1 and a channel that loses, delays and
--- doubles nothing, where nothing else is said
+-- what the options ask for; without any, it is the protocol as AWN has it, seed 1, and a channel
+-- that loses, delays and doubles nothing
 abbrev pub options : Given → Options
 options g = record {
   variant = unwrap_or g.variant Base;

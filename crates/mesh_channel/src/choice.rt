@@ -14,7 +14,7 @@ use mesh_base::Event;
 use mesh_fates::Channel;
 use mesh_world::World;
 
-// Takes the copies out of the front of the plan that a line of the input has delivered or lost.
+// Takes the copies that a line of the input has delivered or lost off the front of the plan.
 fn look(world: &World, channel: &mut Channel)
     ensures { channel.new ≡ choices.looked_at world.now.world channel.old }
 {
@@ -42,8 +42,8 @@ fn by_nodes(world: &World) -> Option<Event<'static>>
     Some(Event::Ask { node, dest })
 }
 
-// The delivery of the first copy of the plan, where it is due in this tick, or else what a node may
-// send.
+// The delivery of the first copy of the plan, if it is due by this tick; otherwise a send or a
+// request.
 fn due_or(world: &World, channel: &mut Channel) -> Option<Event<'static>>
     ensures value { choice_of (option_map event_of result) channel.new
         ≡ choices.due_or world.now.world channel.old channel.old.plan }
@@ -63,7 +63,7 @@ fn due_or(world: &World, channel: &mut Channel) -> Option<Event<'static>>
 }
 
 // What is done next in a tick: what is decided and left to do, then a turn at the least node, then
-// the copy of the least number that is due, then a send, then a request.
+// the first copy that is due, then a send, then a request.
 fn in_tick(world: &World, channel: &mut Channel) -> Option<Event<'static>>
     ensures value { choice_of (option_map event_of result) channel.new
         ≡ choices.in_tick world.now.world channel.old }
@@ -83,7 +83,8 @@ fn in_tick(world: &World, channel: &mut Channel) -> Option<Event<'static>>
     due_or(world, channel)
 }
 
-// A tick is over: the delivery of the copy that is due next, in its tick; none where the line ends.
+// What comes when a tick is over: the delivery of the copy that is due next, in its tick; None if
+// the line ends.
 fn next_tick(until: &Until, did: u64, channel: &mut Channel) -> Option<Event<'static>>
     ensures value { choice_of (option_map event_of result) channel.new
         ≡ choices.next_tick until.now did channel.old }
@@ -110,7 +111,8 @@ fn next_tick(until: &Until, did: u64, channel: &mut Channel) -> Option<Event<'st
     None
 }
 
-/// The next event of a line that has done so many. No node and no copy in flight is searched for.
+/// The next event of a line that has done `did` events. It searches neither nodes nor copies in
+/// flight.
 pub fn next_choice(
     until: &Until,
     did: u64,

@@ -1,4 +1,4 @@
-//! The events of a line that the channel fills.
+//! The events of a line, as the channel chooses them.
 ghost use Rattle.std.specs.Prelude.{◌≡◌, ◌<◌, ◌≤◌, ◌-◌, length, is_some, true, max, option_map, OnOk, IfSome};
 ghost use Rattle.mesh_base.specs.Bounds.{most_lines};
 ghost use Rattle.mesh_meaning.specs.Events.{event_of};
@@ -24,7 +24,7 @@ use mesh_io::Sink;
 use mesh_run::Stop;
 use mesh_world::Steps;
 
-// How many events the channel may choose, once a run has started.
+// How many more events the channel may choose, once a run has started.
 fn most_of(at: &Channeled) -> u64
     requires { is_some at.now.point.world ≡ true }
     ensures { result ≡ MOST_CHOSEN - at.now.point.steps }
@@ -35,7 +35,7 @@ fn most_of(at: &Channeled) -> u64
     MOST_CHOSEN.saturating_sub(world.world().steps())
 }
 
-// The next event of a line that has done so many.
+// The next event of a line that has done `did` events.
 fn choose(at: &mut Channeled, until: &Until, did: u64) -> Option<Event<'static>>
     requires { is_some at.old.point.world ≡ true }
     ensures value { choice_of (option_map event_of result) at.new.channel
@@ -50,12 +50,12 @@ fn choose(at: &mut Channeled, until: &Until, did: u64) -> Option<Event<'static>>
         unreachable!();
     };
     let world = world.world();
-    // A world is sound: its mesh has nodes, and no more than a mesh may have.
+    // For the proof: a world is sound, so its mesh has nodes, and no more than a mesh may have.
     let _mesh = world.mesh();
     next_choice(until, did, world, &mut at.channel)
 }
 
-// Does up to so many events that the channel chooses, each when the one before it is done.
+// Does at most `most` events, each of which the channel chooses after the one before it is done.
 fn do_events<O: Sink>(
     at: &mut Channeled,
     until: &Until,
@@ -96,8 +96,8 @@ fn do_events<O: Sink>(
     Ok(())
 }
 
-/// Does a line that the channel fills, and counts it: the events that it chooses, each written as a
-/// line of its own. Before anything has happened it chooses none.
+/// Does a line whose events the channel chooses, and counts it. Each event is written as a line of
+/// its own, if `at.say` asks for it. Before the run has started the channel chooses none.
 pub fn do_chosen<O: Sink>(
     at: &mut Channeled,
     until: &Until,

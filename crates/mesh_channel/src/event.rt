@@ -28,7 +28,7 @@ use mesh_io::{PutFault, Sink};
 use mesh_run::{Stop, say_event};
 use mesh_world::StepError;
 
-// An event and what it did, where it is said.
+// Writes an event and what it did, if `say`.
 fn say_if<O: Sink>(
     say: bool,
     mesh: &Mesh,
@@ -53,8 +53,8 @@ fn say_if<O: Sink>(
     say_event(mesh, bytes, event, done, packet, buf, out)
 }
 
-/// Does an event once the run has started, and writes it where the lines are said: as its line
-/// stands, where it has one.
+/// Does an event once the run has started and, if `at.say` asks for it, writes it: as its line was
+/// read, if it has one.
 pub fn do_event<'a, O: Sink>(
     at: &mut Channeled,
     bytes: Option<&[u8]>,
@@ -78,7 +78,7 @@ pub fn do_event<'a, O: Sink>(
 {
     let say = at.say.says_lines();
     let point = &mut at.point;
-    // A world has no more nodes than a mesh may have.
+    // The contract of `started` says that a world has no more nodes than a mesh may have.
     let _started = point.state.started();
     let answer = point.state.step_made(at.alloc, &event, &mut point.packet);
     match answer {
@@ -104,7 +104,7 @@ pub fn do_event<'a, O: Sink>(
     }
 }
 
-// Decides of the copies of a cast.
+// Decides what happens to the copies of a cast.
 fn after_cast(
     channel: &mut Channel,
     rates: &Rates,
@@ -131,8 +131,8 @@ fn after_cast(
     }
 }
 
-/// Decides of the copies that an event made which the channel has chosen: a double that it has made
-/// is decided already.
+/// Decides what happens to the copies made by an event that the channel has chosen; about a double
+/// it has decided already.
 pub fn after_chosen(channel: &mut Channel, rates: &Rates, done: &Done) -> Result<(), NoMemory>
     requires tick { channel.old.tick ≤ GREATEST_TICK }
     requires answer { HasAnswer done.now }
@@ -149,7 +149,7 @@ pub fn after_chosen(channel: &mut Channel, rates: &Rates, done: &Done) -> Result
     }
 }
 
-/// Decides of the copies that an event of the input made.
+/// Decides what happens to the copies that an event of the input made.
 pub fn after_given(channel: &mut Channel, rates: &Rates, done: &Done) -> Result<(), NoMemory>
     requires tick { channel.old.tick ≤ GREATEST_TICK }
     requires answer { HasAnswer done.now }

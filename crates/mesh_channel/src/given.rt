@@ -21,7 +21,7 @@ use mesh_base::Event;
 use mesh_io::Sink;
 use mesh_run::Stop;
 
-// The next event of what is decided and left to do.
+// Takes the next event that is decided and left to do.
 fn next_left(at: &mut Channeled) -> Option<Event<'static>>
     requires { 1 ≤ length at.old.point.mesh }
     ensures next { option_map event_of result ≡ slice_get at.old.channel.left 0 }
@@ -33,7 +33,7 @@ fn next_left(at: &mut Channeled) -> Option<Event<'static>>
     at.channel.next_left()
 }
 
-// Does what is decided and left to do.
+// Does all events that are decided and left to do.
 fn do_left<O: Sink>(at: &mut Channeled, out: &mut O) -> Result<(), Stop<'static>>
     requires started { is_some at.old.point.world ≡ true }
     requires some { 1 ≤ length at.old.point.mesh }
@@ -58,8 +58,9 @@ fn do_left<O: Sink>(at: &mut Channeled, out: &mut O) -> Result<(), Stop<'static>
     Ok(())
 }
 
-/// Does a line with one event, starts the run where that is due, and counts the line: writes it as
-/// it stands, and then what is decided of the copies that it made.
+/// Does a line with one event: starts the run if that is due, does the event and then what is
+/// decided of the copies that it made, and counts the line. If `at.say` asks for it, writes the
+/// event as its line was read, and each of the others as a line of its own.
 pub fn do_given<'a, O: Sink>(
     at: &mut Channeled,
     bytes: &[u8],

@@ -11,35 +11,36 @@ pub fn runs_over_channels_are_loop_free()
     ensures { RunsOverChannelsAreLoopFree }
 {}
 
-/// In each world of it every datum that was given or doubled was delivered, waits, is in flight, or
-/// was dropped.
+/// In each world of such a run every datum that was given or doubled was delivered, waits, is in
+/// flight, or was dropped.
 pub fn each_datum_is_accounted_for()
     ensures { EachDatumIsAccountedFor }
 {}
 
-/// The schedule that a run over a channel chooses, run by itself, has the same lines and comes to
-/// the same state and last line, where the numbers of its copies are those that lines may have.
+/// The schedule that a run over a channel chooses, run by itself, has the same lines and ends
+/// alike. It comes to the same state, but for the number of lines, unless a full counter has ended
+/// the run; and to the same last line if no line has ended it.
 pub fn the_chosen_schedule_is_replayed()
     ensures { ChosenScheduleIsReplayed }
 {}
 
-/// Over a channel that loses and doubles nothing no line `lose` or `copy` is chosen by a line that
-/// lets the channel choose.
+/// Over a channel that loses and doubles nothing, and that has nothing left to do, no line that
+/// lets the channel choose has it choose a line `lose` or `copy`.
 pub fn a_lossless_channel_loses_nothing()
     ensures { LosslessChannelLosesNothing }
 {}
 
-/// Nor does one stand behind an event of the input.
+/// Nor is anything added after an event of the input.
 pub fn a_lossless_channel_adds_nothing()
     ensures { LosslessChannelAddsNothing }
 {}
 
-/// No event that the channel chooses is idle.
+/// No event that the channel chooses for a line is idle, if nothing was left to do before the line.
 pub fn chosen_events_are_not_idle()
     ensures { ChosenEventsAreNotIdle }
 {}
 
-/// Nor is one that stands behind an event of the input.
+/// Nor is an event that is added after one of the input.
 pub fn added_events_are_not_idle()
     ensures { AddedEventsAreNotIdle }
 {}

@@ -46,8 +46,8 @@ fn passing_at(mesh: &Mesh, at: usize, arguments: Option<&[u8]>) -> Result<Option
     Ok(Some(n))
 }
 
-/// How many ticks a line lets pass: `pass NUM`. None for another line, which says what it says in a
-/// schedule.
+/// How many ticks a line lets pass: `pass NUM`. None for any other line, which means what it means
+/// in a schedule.
 #[tactic(auto, unfolding(crate::specs::Lines::passing_of))]
 pub fn passing_of(bytes: &[u8], mesh: &Mesh) -> Result<Option<u32>, LineFault>
     ensures { result ≡ lines.passing_of mesh.now bytes.now }

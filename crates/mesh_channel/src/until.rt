@@ -1,4 +1,4 @@
-//! How long a line goes on that the channel fills.
+//! How long a line goes on whose events the channel chooses.
 ghost use Rattle.std.specs.Prelude.{◌≡◌, ◌<◌, ◌≤◌, ◌^◌};
 ghost use Rattle.mesh_channel.specs.Choices as choices;
 
@@ -8,20 +8,20 @@ use mesh_fates::GREATEST_TICK;
 pub const MOST_TICKS: u32 = 1_000_000;
 /// The last tick that a run may come to: a copy that is due later stays in flight.
 pub const LAST_TICK: u64 = GREATEST_TICK;
-/// A line chooses no event once so many were done in a run.
+/// Once this many events were done in a run, no line chooses another.
 pub const MOST_CHOSEN: u64 = 70_368_744_177_664;
 
 /// How long a line goes on.
 #[derive(Clone, Copy)]
 pub enum Until {
-    /// Until so many events were done, and their tick is over.
+    /// Until this many events were done, and their tick is over.
     Events { count: u32 },
     /// Until this tick is over.
     Tick { last: u64 },
 }
 
 impl Until {
-    /// Until so many ticks have passed from this one on.
+    /// Until this many ticks after this one are over, or the last tick of a run is.
     pub fn behind(tick: u64, count: u32) -> Until
         requires { tick ≤ LAST_TICK }
         ensures { result ≡ choices.tick_behind tick count }
@@ -30,7 +30,7 @@ impl Until {
         Until::Tick { last }
     }
 
-    /// Enough was done, once a tick is over.
+    /// Whether enough was done, once a tick is over.
     pub fn is_enough(&self, did: u64) -> bool
         ensures { result ≡ choices.is_enough self.now did }
     {

@@ -5,7 +5,7 @@ use Rattle.mesh_shell.specs.declared.words.WordsError.TheVariants as words
 use Rattle.mesh_check.specs.declared.status.CheckStatus.{CheckStatus}
 use Rattle.mesh_check.specs.declared.status.CheckStatus.TheVariants.{Yes, No, Usage, BadLine, ReadFault, WriteFault, NoMemory}
 
--- the status where there are no words to take: those that are no text are words too
+-- the status if the command line's words can't be taken: words that aren't text are words too
 abbrev pub without_words : WordsError → CheckStatus
 without_words words.NotText = Usage
 without_words words.NoMemory = NoMemory

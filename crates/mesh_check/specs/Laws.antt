@@ -8,7 +8,7 @@ use Rattle.mesh_check.specs.declared.status.CheckStatus.{CheckStatus}
 abbrev pub HasRightAnswer : Type 0
 HasRightAnswer = (s : Says) → (status : CheckStatus) × (text : List ℕ) × IsRight s status text
 
--- and no other
+-- there is no other right answer, with its line
 abbrev pub HasOneAnswer : Type 0
 HasOneAnswer =
     (s : Says) (a b : CheckStatus) (x y : List ℕ) → IsRight s a x → IsRight s b y

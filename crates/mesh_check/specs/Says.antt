@@ -11,7 +11,7 @@ use Rattle.mesh_check.specs.declared.reading.ReadVerdict.TheVariants.{Read, BadL
 abbrev pub most_lines : ℕ
 most_lines = 2 ^ 61
 
--- what a line comes to: it is refused, or the tables show what they do after it
+-- what a line comes to: it is refused, or these tables are shown after it
 abbrev pub line_outcome : Reading → Option Reading → Outcome Reading ReadVerdict
 line_outcome r None = Ended [] [] (BadLine (r.lines + 1))
 line_outcome r (Some next) = On [] next
@@ -21,7 +21,7 @@ outcome_of_piece r (Whole line) = line_outcome r (after_line r line)
 outcome_of_piece r Long = Ended [] [] (BadLine (r.lines + 1))
 outcome_of_piece r Beyond = Ended [] [] (BadLine (r.lines + 1))
 
--- the lines are read, and nothing is written of them; at the end the block that is open closes
+-- the lines are read, and nothing is written about them; at the end the block that is open closes
 abbrev pub reading : Fold Reading ReadVerdict
 reading = record {
   head = λ r. [];

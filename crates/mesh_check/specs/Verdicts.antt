@@ -15,13 +15,13 @@ use Rattle.mesh_check.specs.declared.status.CheckStatus.TheVariants.{Yes, No, Us
 unfoldable pub bad_line : ℕ → List ℕ
 bad_line n = line (label_number (codes "bad line ") n)
 
--- how many nodes were shown, and how many edges they have
+-- the line of sound tables: how many nodes were shown, and how many edges they have
 unfoldable pub yes_line : ShownTables → List ℕ
 yes_line shown =
     line (label_number (codes "yes nodes ") (length shown)
     ++ label_number (codes " edges ") (edges_in shown))
 
--- destination, node and next hop
+-- the line of an edge that fails: its destination, node and next hop
 unfoldable pub no_line : FailingEdge → List ℕ
 no_line e =
     line (codes "no " ++ dotted_decimal e.dest ++ 32 ∷ dotted_decimal e.node
@@ -33,8 +33,8 @@ pub record IsNo (shown : ShownTables) (text : List ℕ) : Type 0 where
   pub first : IsFirstFailing (tables_of shown) edge
   pub line_is : text ≡ no_line edge
 
--- this is the right answer, and this the line that goes with it. The answers that come of words or
--- of a failure are never right
+-- this is the right answer, and this the line that goes with it. The answers for a word on the
+-- command line, a failure or lack of memory are never right
 abbrev pub IsRight : Says → CheckStatus → List ℕ → Type 0
 IsRight (Refuses n) Yes text = ⊥
 IsRight (Refuses n) No text = ⊥
@@ -58,14 +58,14 @@ pub record IsWholeOutput (before now : Option (List ℕ)) (s : Says) (status : C
   pub right : IsRight s status text
   pub written : Appends before now text
 
--- a prefix of the line that goes with a right answer was written
+-- a prefix of the line that goes with the right answer was written
 pub record IsCutShort (before now : Option (List ℕ)) (s : Says) : Type 0 where
   pub status : CheckStatus
   pub text : List ℕ
   pub right : IsRight s status text
   pub written : AppendsPrefix before now text
 
--- what the sink held before and holds now, and the answer: nothing is written of a text that
+-- what the sink held before and holds now, and the answer: nothing is written about a text that
 -- couldn't be read
 abbrev pub IsOutput : Option (List ℕ) → Option (List ℕ) → Says → CheckStatus → Type 0
 IsOutput before now s Yes = IsWholeOutput before now s Yes
@@ -76,8 +76,8 @@ IsOutput before now s ReadFault = now ≡ before
 IsOutput before now s WriteFault = IsCutShort before now s
 IsOutput before now s NoMemory = now ≡ before
 
--- a read failed after some lines, each with its LF, and bytes without one were taken, and this is
--- left: none of the lines is refused
+-- a read failed after some lines with their LFs, and bytes without one, were taken, and this is
+-- left: none of these lines is refused
 abbrev pub IsCutOff : List ℕ → Option (List ℕ) → Type 0
 IsCutOff text left = runs.IsCutShort reading_of text left None None
 

@@ -1,4 +1,4 @@
-//! The one line that a check writes.
+//! The line that a check writes.
 ghost use Rattle.mesh_io.specs.Cause.{HasCause};
 ghost use Rattle.mesh_io.specs.Puts.{Puts};
 ghost use Rattle.mesh_check.specs.Verdicts as verdicts;

@@ -1,6 +1,6 @@
 //! The program `mesh_check`: it reads from standard input what `mesh run` wrote, or tables of other
 //! routers in that form, and says on standard output whether the tables shown are sound, and so
-//! have no cycle of next hops. It knows nothing of the emulator. The top call, over any source and
+//! have no cycle of next hops. It doesn't depend on the emulator. The top call, over any source and
 //! sink, has the whole contract; `main` makes the adapters over the standard streams, and ends with
 //! the status of the answer.
 #![tactic(auto)]

@@ -1,4 +1,4 @@
-//! The tables that a source shows.
+//! The tables that the text of a source shows.
 ghost use Rattle.std.specs.Prelude.{◌≡◌, ◌+◌, ◌<◌, ◌≤◌, ◌^◌, ℕ, ⊤, IfSome, IfOk, IsErrOf, None};
 ghost use Rattle.std.specs.Io.KnownBytes.{IsAtEnd};
 ghost use Rattle.mesh_io.specs.NextLines.{text_limits};
@@ -16,7 +16,7 @@ use std::marker::Model;
 /// What the lines of a text came to.
 #[derive(Clone, Copy, PartialEq, Eq)]
 pub enum ReadVerdict {
-    /// All were read.
+    /// All lines were read.
     Read,
     /// This line, counted from 1, is refused.
     BadLine { line: u64 },

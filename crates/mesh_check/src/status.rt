@@ -8,7 +8,8 @@ use mesh_shell::WordsError;
 pub enum CheckStatus {
     /// Every line was read, and the tables are sound: they have no cycle.
     Yes,
-    /// Every line was read, and some next hop has no better entry.
+    /// Every line was read, and some next hop, not the destination, has a valid entry that isn't
+    /// better.
     No,
     /// The command line has a word.
     Usage,
@@ -18,7 +19,7 @@ pub enum CheckStatus {
     ReadFault,
     /// The sink failed.
     WriteFault,
-    /// Memory was asked for and not found.
+    /// Memory ran out.
     NoMemory,
 }
 

@@ -13,7 +13,7 @@ use mesh_shell::Fault;
 use mesh_tables::PrintedTables;
 use std::alloc::Global;
 
-// Says whether tables are sound.
+// Writes whether the tables are sound.
 fn tell<O: Sink>(tables: &PrintedTables, out: &mut O) -> CheckStatus
     ensures told { IsOutput (O.held out.old) (O.held out.new) (Shows tables.now.closed) result }
     ensures acyclic { result ≡ CheckStatus.Yes → HasNoCycle (Shows tables.now.closed) }
@@ -36,7 +36,7 @@ fn tell<O: Sink>(tables: &PrintedTables, out: &mut O) -> CheckStatus
     }
 }
 
-// Says that a line is refused.
+// Writes that a line is refused.
 fn refuse<O: Sink>(line: u64, out: &mut O) -> CheckStatus
     ensures told { IsOutput (O.held out.old) (O.held out.new) (Refuses line) result }
     ensures write { result ≡ CheckStatus.WriteFault
@@ -55,34 +55,35 @@ fn refuse<O: Sink>(line: u64, out: &mut O) -> CheckStatus
 }
 
 /// Checks the tables that a printed text shows, from the source to the sink. One line is written at
-/// the end: `yes nodes N edges E` where they are sound, `no D X Y` with the first edge that fails,
-/// by rising destination and then by rising node, or `bad line N`.
+/// the end: `yes nodes N edges E` if they are sound, `no D X Y` with the first edge that fails, by
+/// rising destination and then by rising node, or `bad line N`.
 pub fn check<I: Source, O: Sink>(
     alloc: Global,
     words: &[&str],
     input: &mut I,
     out: &mut O,
 ) -> CheckStatus
-    // There is a word: nothing is read or written.
+    // If there is a word, nothing is read or written.
     ensures usage_exactly_for_a_word { (result ≡ CheckStatus.Usage) ↔ (0 < length words.now) }
     ensures untouched_with_a_word { result ≡ CheckStatus.Usage
         → (input.new ≡ input.old) × (out.new ≡ out.old) }
 
-    // The answer is the one that is right for the text, and its line is what is written. After a
-    // failed write it is a prefix of that line; after a failed read, or want of memory, nothing.
+    // The answer is the right one for the text, and the line that goes with it is written. After a
+    // failed write, what is written is a prefix of that line; after a failed read, or lack of
+    // memory, it is nothing.
     ensures answer_and_line { length words.now ≡ 0 → IfSome (I.left input.old) (λ text.
         IsOutput (O.held out.old) (O.held out.new) (says text) result) }
 
-    // Where the answer is Yes, no destination has a cycle in the tables that were shown.
+    // If the answer is `Yes`, no destination has a cycle in the tables that were shown.
     ensures loop_free { result ≡ CheckStatus.Yes
         → IfSome (I.left input.old) (λ text. HasNoCycle (says text)) }
 
-    // The tables are judged only where the input was read to its end.
+    // The tables are judged only if the input was read to its end.
     ensures yes_at_the_end { result ≡ CheckStatus.Yes → IsAtEnd (I.left input.new) }
     ensures no_at_the_end { result ≡ CheckStatus.No → IsAtEnd (I.left input.new) }
 
-    // A fault is answered only where the source or the sink has failed in this call, and no other
-    // answer is given where one of them has.
+    // A fault is answered only if the source or the sink has failed in this call, and no other
+    // answer is given if one of them has.
     ensures cause_of_read_fault { result ≡ CheckStatus.ReadFault
         → Rose (I.faults input.old) (I.faults input.new) }
     ensures cause_of_write_fault { result ≡ CheckStatus.WriteFault
@@ -92,15 +93,15 @@ pub fn check<I: Source, O: Sink>(
     ensures no_other_fault_of_out { result ≢ CheckStatus.WriteFault
         → O.faults out.new ≡ O.faults out.old }
 
-    // After a failed read none of the lines that were read whole is refused.
+    // If a read has failed, none of the lines that were read whole is refused.
     ensures cut_off { result ≡ CheckStatus.ReadFault
         → IfSome (I.left input.old) (λ text. IsCutOff text (I.left input.new)) }
 
-    // Nothing is written of a text that couldn't be read.
+    // Nothing is written about a text that couldn't be read.
     ensures nothing_written_after_read_fault { result ≡ CheckStatus.ReadFault → out.new ≡ out.old }
     ensures nothing_written_without_memory { result ≡ CheckStatus.NoMemory → out.new ≡ out.old }
 
-    // Where nothing has failed the text is decided, unless memory runs out.
+    // If nothing has failed, the text is decided, unless memory runs out.
     ensures complete { length words.now ≡ 0
         → (Rose (I.faults input.old) (I.faults input.new) → ⊥)
         → (Rose (O.faults out.old) (O.faults out.new) → ⊥)
@@ -117,7 +118,7 @@ pub fn check<I: Source, O: Sink>(
         Ok(ReadVerdict::BadLine { line }) => refuse(line, out),
         Err(Fault::ReadFault) => CheckStatus::ReadFault,
         Err(Fault::NoMemory) => CheckStatus::NoMemory,
-        // The lines are read into no sink.
+        // The lines are read with a sink that never fails.
         Err(Fault::WriteFault) => unreachable!(),
     }
 }

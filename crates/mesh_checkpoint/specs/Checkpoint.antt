@@ -1,5 +1,5 @@
--- The body of a checkpoint: its table, part by part. Nothing is asked here of what the values mean.
--- All numbers have their highest byte first.
+-- The body of a checkpoint: its table, part by part. What the values mean doesn't matter here. All
+-- numbers are written with their highest byte first.
 use Rattle.std.specs.Prelude.{ℕ, zero, suc, ◌+◌, ◌*◌, ◌^◌, Bool, true, false, List, [], ◌∷◌, length, Option, ◌⊎◌}
 use Rattle.std.specs.Int.{w16, w32, w64}
 use Rattle.std.proofs.Common.{inl, inr}
@@ -54,7 +54,7 @@ pub record World : Type 0 where
   pub next : ℕ
   pub copies : List Flying
 
--- each node of the mesh by its address, with its first number
+-- the head, each node of the mesh by its address, with its first number, and the world, if any
 pub record Body : Type 0 where
   pub head : Head
   pub mesh : List (ℕ × ℕ)
@@ -62,7 +62,7 @@ pub record Body : Type 0 where
 
 -- ---- numbers and texts
 
--- a node, by its index in a mesh of so many
+-- a node, by its index in a mesh of this many
 abbrev pub index : ℕ → Format ℕ
 index nodes = number w16 0 nodes
 
@@ -121,7 +121,7 @@ head = as_form
 abbrev pub station : Format (ℕ × ℕ)
 station = seq any32 λ _. positive32
 
--- by rising address
+-- the nodes of a mesh, by rising address
 abbrev pub mesh : Format (List (ℕ × ℕ))
 mesh = counted_rising (λ p. p.0) (number w16 0 (MOST_NODES + 1)) station
 
@@ -152,7 +152,7 @@ routes nodes = counted_rising (λ r. r.dest) any16 (route nodes)
 abbrev pub request : ℕ → Format (ℕ × ℕ)
 request nodes = seq (index nodes) λ _. any32
 
--- by the originator, and then by the id
+-- the key of a request: it rises by the originator, and then by the id
 abbrev pub request_key : ℕ × ℕ → ℕ
 request_key p = p.0 * 2 ^ 32 + p.1
 
@@ -212,14 +212,14 @@ link nodes = as_form
     (λ l. (l.a, (l.b, l.stands)))
     (seq (index nodes) λ a. seq (number w16 (a + 1) nodes) λ _. truth)
 
--- by the first node, and then by the second
+-- the key of a link: it rises by the first node, and then by the second
 abbrev pub link_key : Link → ℕ
 link_key l = l.a * 2 ^ 16 + l.b
 
 abbrev pub links : ℕ → Format (List Link)
 links nodes = counted_rising link_key any16 (link nodes)
 
--- a copy whose id is below that of the next
+-- a copy whose id is below that of the next copy
 abbrev pub copy : ℕ → ℕ → Format Flying
 copy nodes next = as_form
     (λ p. record { id = p.0; from = p.1.0; to = p.1.1.0; bytes = p.1.1.1 })

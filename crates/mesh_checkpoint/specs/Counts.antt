@@ -11,7 +11,7 @@ use Rattle.aodv_wire.specs.Encodes.{refusal, message_in_fields}
 use Rattle.mesh_checkpoint.specs.Formats.{one_if}
 use Rattle.mesh_checkpoint.specs.Checkpoint.{Waits, Node, World, Body}
 
--- where no refusal applies, the message is a datum's
+-- the message wasn't refused, and is that of a data packet
 abbrev pub is_parcel : Option WireError → Message → Bool
 is_parcel None (Parcel datum) = true
 is_parcel refused others = false
@@ -20,28 +20,28 @@ is_parcel refused others = false
 unfoldable pub encodes_datum : List ℕ → Bool
 encodes_datum bytes = is_parcel (refusal bytes) (message_in_fields bytes)
 
--- what waits for a destination
+-- how many data wait for a destination
 abbrev pub data_waiting : Waits → ℕ
 data_waiting w = length w.bodies
 
--- 1 where the item is a datum or a datum's packet
+-- 1 if the item is a datum or a data packet, and else 0
 abbrev pub data_in_item : Item → ℕ
 data_in_item (New dest body) = 1
 data_in_item (Heard from bytes) = one_if (encodes_datum bytes)
 
--- the same of a sender and a packet
+-- 1 if what was heard, a sender and a packet, is a data packet, and else 0
 abbrev pub data_heard : ℕ × List ℕ → ℕ
 data_heard p = one_if (encodes_datum p.1)
 
--- 1 where the copy is a datum's packet
+-- 1 if the copy is a data packet, and else 0
 abbrev pub data_in_copy : Flying → ℕ
 data_in_copy c = one_if (encodes_datum c.bytes)
 
--- those in the store and in the inbox
+-- how many data are in a node's store and inbox
 abbrev pub data_at : Node → ℕ
 data_at n = sum_by data_waiting n.store + sum_by data_in_item n.inbox
 
--- those at all nodes and in flight
+-- how many data are at all nodes and in flight
 abbrev pub data_in_world : World → ℕ
 data_in_world w = sum_by data_at w.nodes + sum_by data_in_copy w.copies
 

@@ -1,4 +1,4 @@
--- How values are written as bytes, one after another, and read again. A format is built of smaller
+-- How values are written as bytes, one after another, and read back. A format is built from smaller
 -- ones, so that a table of fields is written down once, for both directions.
 use Rattle.std.specs.Prelude.{ℕ, zero, suc, ◌+◌, ◌==◌, Bool, true, ◌&&◌, if◌then◌else◌, List, [], ◌∷◌, ◌++◌, length, take, drop, Option, Some, None, option_and_then, nat_lt, nat_le, ◌⊎◌}
 use Rattle.std.proofs.Common.{inl, inr}
@@ -13,7 +13,7 @@ abbrev pub only_if : {A : Type 0} → Bool → A → Option A
 only_if b x = if b then Some x else None
 
 -- a format of values: the bytes of a value; the value at the start of the bytes, with the bytes
--- behind it; and which values have bytes
+-- after it; and which values may be written
 pub record Format (A : Type 0) : Type 0 where
   pub put : A → List ℕ
   pub get : List ℕ → Option (A × List ℕ)
@@ -33,7 +33,7 @@ byte_at low end (b ∷ bytes) = only_if (is_from low end b) (b, bytes)
 abbrev pub byte : ℕ → ℕ → Format ℕ
 byte low end = record { put = λ n. n ∷ []; get = byte_at low end; fits = is_from low end }
 
--- the same in the bytes of a width, the highest first
+-- a number in as many bytes as the width says, the highest first
 abbrev pub number_of : Width → List ℕ → ℕ
 number_of w bytes = from_be_bytes w (take (byte_len w) bytes)
 
@@ -56,7 +56,7 @@ seq a b = record {
   fits = λ p. a.fits p.0 && (b p.0).fits p.1;
 }
 
--- so many values
+-- this many values, one after another
 abbrev pub get_times : {A : Type 0} → (List ℕ → Option (A × List ℕ)) → ℕ → List ℕ
     → Option (List A × List ℕ)
 get_times get zero bytes = Some ([], bytes)
@@ -74,7 +74,7 @@ times a n = record {
   fits = λ xs. (length xs == n) && all_fit a.fits xs;
 }
 
--- so many values whose keys rise, the first of at least `low`
+-- this many values whose keys rise, the first key being at least `low`
 abbrev pub get_rising : {A : Type 0} → (A → ℕ) → (List ℕ → Option (A × List ℕ)) → ℕ → ℕ → List ℕ
     → Option (List A × List ℕ)
 get_rising key get zero low bytes = Some ([], bytes)
@@ -102,35 +102,35 @@ as_form to back a = record {
   fits = λ y. a.fits (back y);
 }
 
--- a truth as a byte, 1 where it holds and 0 where it doesn't
+-- a truth value as a byte: 1 if it is true, and else 0
 abbrev pub one_if : Bool → ℕ
 one_if b = if b then 1 else 0
 
 abbrev pub truth : Format Bool
 truth = as_form (λ n. n == 1) one_if (byte 0 2)
 
--- a list behind its length
+-- a list, after its length
 abbrev pub counted_list : {A : Type 0} → Format ℕ → Format A → Format (List A)
 counted_list count a = as_form (λ p. p.1) (λ xs. (length xs, xs)) (seq count (times a))
 
--- a list whose keys rise, behind its length
+-- a list whose keys rise, after its length
 abbrev pub counted_rising : {A : Type 0} → (A → ℕ) → Format ℕ → Format A → Format (List A)
 counted_rising key count a = as_form (λ p. p.1) (λ xs. (length xs, xs)) (seq count (rising key a))
 
--- so many bytes, as they are
+-- this many bytes, as they are
 abbrev pub get_run : ℕ → List ℕ → Option (List ℕ × List ℕ)
 get_run n bytes = if nat_lt (length bytes) n then None else Some (take n bytes, drop n bytes)
 
 abbrev pub run : ℕ → Format (List ℕ)
 run n = record { put = λ text. text; get = get_run n; fits = λ text. length text == n }
 
--- bytes behind their length, which is from `low` on and below `end`
+-- bytes, after their length, which is from `low` on and below `end`
 abbrev pub text : Width → ℕ → ℕ → Format (List ℕ)
 text w low end = as_form (λ p. p.1) (λ b. (length b, b)) (seq (number w low end) run)
 
--- ---- behind a byte
+-- ---- after a byte
 
--- none behind a byte 0, or one behind a byte 1, where that may be
+-- no value after a byte 0, or, if there may be one, a value after a byte 1
 abbrev pub put_maybe : {A : Type 0} → (A → List ℕ) → Option A → List ℕ
 put_maybe put None = 0 ∷ []
 put_maybe put (Some x) = 1 ∷ put x
@@ -151,7 +151,7 @@ abbrev pub maybe : {A : Type 0} → Bool → Format A → Format (Option A)
 maybe may a =
     record { put = put_maybe a.put; get = get_maybe may a.get; fits = fits_maybe may a.fits }
 
--- one kind behind a byte 0, and another behind a byte 1
+-- a value of one kind after a byte 0, or of another after a byte 1
 abbrev pub put_either : {A B : Type 0} → (A → List ℕ) → (B → List ℕ) → A ⊎ B → List ℕ
 put_either put other (inl x) = 0 ∷ put x
 put_either put other (inr y) = 1 ∷ other y

@@ -11,11 +11,11 @@ use Rattle.mesh_checkpoint.specs.State.{body_length, checkpoint_of, IsCheckpoint
 abbrev pub AreBytes : List ℕ → Type 0
 AreBytes bytes = (i : ℕ) → get_or bytes i 0 < 2 ^ 8
 
--- what is written of a body is read again
+-- a body that fits is read back from the bytes that are written for it
 abbrev pub WrittenIsRead : Type 0
 WrittenIsRead = (x : Body) → body.fits x ≡ true → body.get (body.put x) ≡ Some (x, [])
 
--- and what is read of a body is written so
+-- bytes that are read as a body are those that are written for it, and the body fits
 abbrev pub ReadIsWritten : Type 0
 ReadIsWritten =
     (b : List ℕ) (x : Body) → AreBytes b → body.get b ≡ Some (x, [])
@@ -40,13 +40,13 @@ BalancedIsTaken =
     (b : List ℕ) (x : Body) (e : ValidateError) → IsCheckpoint b x → IsBalanced x
     → ¬ (IsRefused b e)
 
--- bytes are refused for one reason
+-- bytes are refused for at most one reason
 abbrev pub OneRefusal : Type 0
 OneRefusal =
     (b : List ℕ) (e f : ValidateError) → IsRefused b e → IsRefused b f → e ≡ f
 
--- a state has at most one checkpoint, and one where its numbers are in the table's ranges, unless
--- its body is too long
+-- a state has at most one checkpoint, and it has one if its numbers are in the table's ranges,
+-- unless its body is too long
 abbrev pub OneState : Type 0
 OneState = (b c : List ℕ) (m : RunState) → IsState b m → IsState c m → b ≡ c
 

@@ -64,7 +64,7 @@ waits_in store = map waits_of (maps.entries store)
 
 -- ---- a node
 
--- what waits in an inbox, with the packet of a message
+-- an item of an inbox; a message that was heard is kept as its packet
 abbrev pub item_of : Nodes → Item → items.Item
 item_of mesh (New body dest) = item.New dest body
 item_of mesh (Heard from message) = item.Heard from (packet_of mesh message)
@@ -91,7 +91,7 @@ copy_of mesh c =
 
 -- ---- the world and the body
 
--- after so many steps
+-- the world after this many steps
 abbrev pub world_after : ℕ → Nodes → model.World → World
 world_after steps mesh w = record {
   steps = steps;
@@ -108,8 +108,8 @@ body_of m = record {
   world = option_map (world_after m.steps m.mesh) m.world;
 }
 
--- the bytes are the checkpoint of the state. A state has at most one, and exactly one where its
--- numbers are in the table's ranges and its body isn't too long
+-- the bytes are the checkpoint of the state. A state has at most one, and it has one if its numbers
+-- are in the table's ranges and its body isn't too long
 abbrev pub IsState : List ℕ → RunState → Type 0
 IsState b m = IsCheckpoint b (body_of m)
 

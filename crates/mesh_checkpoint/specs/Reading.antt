@@ -5,20 +5,20 @@ use Rattle.mesh_checkpoint.specs.Formats.{Format}
 use Rattle.mesh_checkpoint.specs.Checkpoint.{Body, body}
 use Rattle.mesh_checkpoint.specs.Counts.{data_in}
 
--- what is read of a list of bytes is what was found, seen by `view`, and there is nothing to read
--- where nothing was found
+-- what can be read of the bytes is what was found, as `view` has it; if nothing was found, nothing
+-- can be read
 abbrev pub Gives : {X Y : Type 0} → (X → Y) → Option X → Option Y → Type 0
 Gives view (Some x) read = read ≡ Some (view x)
 Gives view None read = read ≡ None
 
--- what is read of a list of bytes is what `next` reads on from what was found, and there is nothing
--- to read where nothing was found
+-- what can be read of the bytes is what `next` reads on from what was found; if nothing was found,
+-- nothing can be read
 abbrev pub GoesOn : {X Y : Type 0} → (X → Option Y) → Option X → Option Y → Type 0
 GoesOn next (Some x) read = read ≡ next x
 GoesOn next None read = read ≡ None
 
--- a value stands at the start of the bytes, with so many data in it, and these bytes behind it. It
--- has no more data than bytes
+-- a value is at the start of the bytes, with this many data in it, and these bytes after it. It has
+-- no more data than bytes
 pub record IsPassed {A : Type 0} (format : Format A) (amount : A → ℕ) (bytes : List ℕ) (n : ℕ)
     (rest : List ℕ) : Type 0 where
   pub value : A
@@ -26,12 +26,12 @@ pub record IsPassed {A : Type 0} (format : Format A) (amount : A → ℕ) (bytes
   pub count : amount value ≡ n
   pub few : n + length rest ≤ length bytes
 
--- a value is passed over without being kept: its data are counted, and the bytes behind it are left
+-- a value is passed over without being kept: its data are counted, and the bytes after it are left
 abbrev pub Passes : {A : Type 0} → Format A → (A → ℕ) → List ℕ → Option (ℕ × List ℕ) → Type 0
 Passes format amount bytes (Some p) = IsPassed format amount bytes p.0 p.1
 Passes format amount bytes None = format.get bytes ≡ None
 
--- the same, and its key is this one, which isn't the greatest number of 64 bits
+-- as IsPassed, and the key of the value is k, which is below the greatest number of 64 bits
 pub record IsKeyed {A : Type 0} (format : Format A) (key amount : A → ℕ) (bytes : List ℕ) (k n : ℕ)
     (rest : List ℕ) : Type 0 where
   pub passed : IsPassed format amount bytes n rest
@@ -43,7 +43,7 @@ abbrev pub PassesBy : {A : Type 0} → Format A → (key amount : A → ℕ) →
 PassesBy format key amount bytes (Some p) = IsKeyed format key amount bytes p.0 p.1 p.2
 PassesBy format key amount bytes None = format.get bytes ≡ None
 
--- a body stands at the start of the bytes, with this head and so many data
+-- a body is at the start of the bytes, with this head and this many data, and these bytes after it
 pub record IsBodyPassed (bytes : List ℕ) (head : Head) (n : ℕ) (rest : List ℕ) : Type 0 where
   pub value : Body
   pub read : body.get bytes ≡ Some (value, rest)

@@ -4,7 +4,7 @@ use Rattle.aodv_node.specs.Seen.{NodeSeen}
 use Rattle.mesh_checkpoint.specs.Checkpoint.{Node}
 use Rattle.mesh_checkpoint.specs.Points.{routes_in, waits_in}
 
--- its own number, its routes, the requests that it has seen, its store, and its inbox
+-- a node's own number, its routes, the requests that it has seen, its store, and its inbox
 abbrev pub listed_node : NodeSeen → Node
 listed_node n = record {
   sn = (n.core).sn;

@@ -32,7 +32,7 @@ pub record IsCheckpoint (b : List ℕ) (x : Body) : Type 0 where
 abbrev pub stated_size : List ℕ → ℕ
 stated_size b = number_of w32 (drop 4 b)
 
--- these bytes are there and state no more than the limit, and as many bytes stand behind them
+-- bytes 4 to 7 are there and state no more than the limit, and as many bytes follow them
 abbrev pub HasLength : List ℕ → Type 0
 HasLength b = (stated_size b ≤ LONGEST_BODY) × (length b ≡ 8 + stated_size b)
 
@@ -44,7 +44,7 @@ IsRefused b errors.Spelling =
     (take 4 b ≡ magic) × HasLength b × ((x : Body) → ¬ (IsCheckpoint b x))
 IsRefused b errors.Sums = (x : Body) × IsCheckpoint b x × ¬ (IsBalanced x)
 
--- the bytes are a checkpoint whose sums are balanced, and it has so many data, no more than bytes
+-- the bytes are a checkpoint whose sums are balanced, with this many data, no more than bytes
 pub record IsValidated (b : List ℕ) (n : ℕ) : Type 0 where
   pub found : Body
   pub checkpoint : IsCheckpoint b found

@@ -1,4 +1,4 @@
--- What a part means that was read, and what stands behind its head.
+-- What a part that was read means, and what follows its head.
 use Rattle.std.specs.Prelude.{ℕ, ⊤, List, Option, Some}
 use Rattle.aodv_model.specs.Soundness.{IsDatum}
 use Rattle.mesh_base.specs.declared.events.Flying.{Flying}
@@ -28,7 +28,7 @@ abbrev pub HasDatum : ItemView → Type 0
 HasDatum (New dest body) = IsDatum body.now
 HasDatum (Heard from bytes) = ⊤
 
--- the route with this head, whose precursors stand at the start of the bytes
+-- the route with this head, whose precursors are at the start of the bytes, and the bytes after it
 abbrev pub route_behind : ℕ → RouteHead → List ℕ → Option (Route × List ℕ)
 route_behind nodes h bytes =
     get_rising (λ i. i) (index nodes).get h.precursors 0 bytes >>= λ x. Some (
@@ -44,7 +44,7 @@ route_behind nodes h bytes =
       x.1,
     )
 
--- what waits with this head, whose data stand at the start of the bytes
+-- what waits with this head, whose data are at the start of the bytes, and the bytes after it
 abbrev pub waits_behind : WaitsHead → List ℕ → Option (Waits × List ℕ)
 waits_behind h bytes =
     get_times datum.get h.data bytes >>= λ x. Some (

@@ -1,4 +1,4 @@
-//! A body, as it is passed over.
+//! Passing over a body.
 ghost use Rattle.std.specs.Prelude.{◌<◌, ◌==◌, length, not, option_map, IfSome};
 ghost use Rattle.mesh_checkpoint.specs.Heads.{AreSums};
 ghost use Rattle.mesh_checkpoint.specs.Formats.{maybe};
@@ -41,7 +41,7 @@ fn read_variant(bytes: &[u8]) -> Option<(Variant, &[u8])>
     Some((variant, rest))
 }
 
-/// The head at the start of the bytes, and the bytes behind it.
+/// The head at the start of the bytes, and the bytes after it.
 pub fn read_head(bytes: &[u8]) -> Option<(Head, &[u8])>
     ensures value { Gives (λ x. (x.0, x.1.now)) result (model.head.get bytes.now) }
     ensures shorter { IfSome result (λ x. length x.1.now < length bytes.now) }
@@ -68,7 +68,7 @@ pub fn read_head(bytes: &[u8]) -> Option<(Head, &[u8])>
     Some((head, rest))
 }
 
-// A world of so many nodes: how many data it has.
+// Passes over a world of this many nodes: how many data it has, and the bytes after it.
 fn pass_world(bytes: &[u8], nodes: u32) -> Option<(u64, &[u8])>
     ensures { Passes (model.world nodes) counts.data_in_world bytes.now
         (option_map (λ x. (x.0, x.1.now)) result) }
@@ -83,7 +83,7 @@ fn pass_world(bytes: &[u8], nodes: u32) -> Option<(u64, &[u8])>
     Some((at_nodes + flying, rest))
 }
 
-// A world, if there is one, behind the byte that says so.
+// Passes over a world, if there is one, after the byte that says whether there is.
 fn pass_maybe_world(bytes: &[u8], nodes: u32) -> Option<(u64, &[u8])>
     ensures { Passes (maybe (not (nodes == 0)) (model.world nodes)) counts.data_in bytes.now
         (option_map (λ x. (x.0, x.1.now)) result) }
@@ -98,7 +98,7 @@ fn pass_maybe_world(bytes: &[u8], nodes: u32) -> Option<(u64, &[u8])>
     pass_world(rest, nodes)
 }
 
-/// Passes over a body: its head, how many data it has, and the bytes behind it.
+/// Passes over a body: its head, how many data it has, and the bytes after it.
 pub(crate) fn pass_body(bytes: &[u8]) -> Option<(Head, u64, &[u8])>
     ensures body { PassesBody bytes.now (option_map (λ x. (x.0, x.1, x.2.now)) result) }
     ensures below { IfSome result (λ x. AreSums x.0) }

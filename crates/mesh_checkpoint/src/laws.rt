@@ -1,12 +1,12 @@
 //! What holds of checkpoints.
 ghost use Rattle.mesh_checkpoint.specs.Laws.{WrittenIsRead, ReadIsWritten, FittingIsWritten, OneCheckpoint, OneBody, BalancedIsTaken, OneRefusal, OneState, FittingIsState};
 
-/// What is written of a body is read again.
+/// A body is read back from the bytes that are written for it.
 pub fn written_is_read()
     ensures { WrittenIsRead }
 {}
 
-/// What is read of a body is written so.
+/// Bytes that are read as a body are those that are written for it.
 pub fn read_is_written()
     ensures { ReadIsWritten }
 {}
@@ -31,7 +31,7 @@ pub fn balanced_is_taken()
     ensures { BalancedIsTaken }
 {}
 
-/// Bytes are refused for one reason.
+/// Bytes are refused for at most one reason.
 pub fn one_refusal()
     ensures { OneRefusal }
 {}

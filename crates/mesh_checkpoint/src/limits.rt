@@ -1,4 +1,4 @@
-//! The limits of a checkpoint, beside those of a mesh.
+//! The limits of a checkpoint, besides those of a mesh.
 
 /// The longest body, in bytes.
 pub const LONGEST_BODY: u64 = 268_435_456;
@@ -16,20 +16,20 @@ pub const GREATEST_NEXT_ID: u64 = 1_152_921_504_606_846_976;
 /// from a socket.
 pub const LONGEST_HEARD: u32 = 2049;
 
-/// The end of the lengths of a datum, in bytes.
+/// One more than the greatest length of a datum, in bytes.
 pub const DATUM_END: u32 = 513;
 
-/// The end of the lengths of a packet in flight, in bytes.
+/// One more than the greatest length of a packet in flight, in bytes.
 pub const PACKET_END: u32 = 1605;
 
-/// The end of the numbers of two bytes.
+/// One more than the greatest number of two bytes.
 pub const END16: u32 = 65_536;
 
-/// The end of the numbers of four bytes.
+/// One more than the greatest number of four bytes.
 pub const END32: u64 = 4_294_967_296;
 
-/// The end of the numbers of nodes.
+/// One more than the greatest number of nodes.
 pub const NODES_END: u32 = 201;
 
-/// How far the keys of two links lie apart whose first nodes follow one another.
+/// By how much the key of a link rises when its first node rises by one.
 pub(crate) const LINK_BASE: u64 = 65_536;

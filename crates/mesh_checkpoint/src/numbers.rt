@@ -1,5 +1,5 @@
 //! Numbers and texts at the start of the bytes. Each reader answers what it has read and the bytes
-//! behind it, or None where the bytes don't begin so.
+//! after it, or None if the bytes don't begin with such a value.
 ghost use Rattle.std.specs.Prelude.{◌<◌, ◌≤◌, length, IfSome};
 ghost use Rattle.std.specs.Int.{w16, w32, w64};
 ghost use Rattle.mesh_checkpoint.specs.Formats.{byte, number, truth, text};
@@ -17,7 +17,7 @@ pub fn byte(bytes: &[u8], low: u8, end: u16) -> Option<(u8, &[u8])>
     Some((*first, rest))
 }
 
-/// A truth, in one byte.
+/// A truth value, in one byte.
 pub fn truth(bytes: &[u8]) -> Option<(bool, &[u8])>
     ensures value { Gives (λ x. (x.0, x.1.now)) result (truth.get bytes.now) }
     ensures shorter { IfSome result (λ x. length x.1.now < length bytes.now) }
@@ -80,7 +80,7 @@ pub fn number64(bytes: &[u8], low: u64, end: u64) -> Option<(u64, &[u8])>
     Some((number, rest))
 }
 
-/// Bytes behind their length, which is from `low` on and below `end`.
+/// Bytes, after their length, which is from `low` on and below `end`.
 pub fn text(bytes: &[u8], low: u32, end: u32) -> Option<(&[u8], &[u8])>
     ensures value { Gives (λ x. (x.0.now, x.1.now)) result ((text w16 low end).get bytes.now) }
     ensures shorter { IfSome result (λ x. length x.1.now < length bytes.now) }

@@ -6,7 +6,7 @@ ghost use Rattle.mesh_checkpoint.specs.Reading.{Passes, PassesBy};
 
 use crate::reading::rise;
 
-/// A kind of part, many of which may stand one after another.
+/// A kind of part, many of which may follow one another.
 pub(crate) trait Part {
     /// What such a part is.
     ghost Value: { Type 0 };
@@ -17,14 +17,14 @@ pub(crate) trait Part {
     /// How many data are in it.
     ghost amount: { Value → ℕ };
 
-    /// Passes over the part at the front: how many data are in it, and the bytes behind it. None
-    /// where the bytes don't begin with such a part.
+    /// Passes over the part at the start of the bytes: how many data are in it, and the bytes after
+    /// it. None if the bytes don't begin with such a part.
     fn pass<'b>(&self, bytes: &'b [u8]) -> Option<(u64, &'b [u8])>
         ensures { Passes {A = Value} (format self.now) amount bytes.now
             (option_map (λ x. (x.0, x.1.now)) result) };
 }
 
-/// A kind of part with a key, by which such parts rise.
+/// A kind of part with a key. Such parts follow one another by rising key.
 pub(crate) trait KeyedPart {
     /// What such a part is.
     ghost Value: { Type 0 };
@@ -38,14 +38,14 @@ pub(crate) trait KeyedPart {
     /// How many data are in it.
     ghost amount: { Value → ℕ };
 
-    /// Passes over the part at the front: its key, how many data are in it, and the bytes behind
-    /// it. None where the bytes don't begin with such a part.
+    /// Passes over the part at the start of the bytes: its key, how many data are in it, and the
+    /// bytes after it. None if the bytes don't begin with such a part.
     fn pass<'b>(&self, bytes: &'b [u8]) -> Option<(u64, u64, &'b [u8])>
         ensures { PassesBy {A = Value} (format self.now) key amount bytes.now
             (option_map (λ x. (x.0, x.1, x.2.now)) result) };
 }
 
-/// Passes over so many parts: how many data are in them, and the bytes behind them.
+/// Passes over `count` parts: how many data are in them, and the bytes after them.
 pub(crate) fn pass_all<'b, P: Part>(
     part: &P,
     count: u32,
@@ -64,7 +64,7 @@ pub(crate) fn pass_all<'b, P: Part>(
     Some((sum, rest))
 }
 
-/// Passes over so many parts whose keys rise: how many data are in them, and the bytes behind them.
+/// Passes over `count` parts whose keys rise: how many data are in them, and the bytes after them.
 pub(crate) fn pass_rising<'b, P: KeyedPart>(
     part: &P,
     count: u32,

@@ -1,4 +1,4 @@
-//! The parts of a node and of the radio, each as it is passed over.
+//! Passing over the parts of a node and of the radio.
 ghost use Rattle.std.specs.Prelude.{◌≡◌, ◌≤◌, ℕ, List};
 ghost use Rattle.mesh_base.specs.declared.events.Item as declared_item;
 ghost use Rattle.mesh_base.specs.declared.events.Flying as declared_flying;
@@ -16,7 +16,7 @@ use crate::reading::{
 };
 use aodv_wire::{Message, read};
 
-/// The index of a node, in a mesh of so many.
+/// The index of a node, in a mesh of this many.
 #[derive(Clone, Copy)]
 struct Index {
     nodes: u32,
@@ -37,7 +37,7 @@ impl KeyedPart for Index {
     }
 }
 
-/// A route, in a mesh of so many nodes.
+/// A route, in a mesh of this many nodes.
 #[derive(Clone, Copy)]
 pub(crate) struct Route {
     pub nodes: u32,
@@ -60,7 +60,7 @@ impl KeyedPart for Route {
     }
 }
 
-/// A request that was seen, in a mesh of so many nodes.
+/// A request that was seen, in a mesh of this many nodes.
 #[derive(Clone, Copy)]
 pub(crate) struct Request {
     pub nodes: u32,
@@ -98,7 +98,7 @@ impl Part for Datum {
     }
 }
 
-/// What waits for a destination, in a mesh of so many nodes.
+/// What waits for a destination, in a mesh of this many nodes.
 #[derive(Clone, Copy)]
 pub(crate) struct Waits {
     pub nodes: u32,
@@ -120,7 +120,7 @@ impl KeyedPart for Waits {
     }
 }
 
-// How many data a packet is: 1 where its bytes encode a datum's.
+// How many data a packet carries: 1 if its bytes encode a data packet, and else 0.
 #[tactic(auto, unfolding(crate::specs::Counts::encodes_datum))]
 fn data_of(packet: &[u8]) -> u64
     ensures value { result ≡ one_if (counts.encodes_datum packet.now) }
@@ -132,7 +132,7 @@ fn data_of(packet: &[u8]) -> u64
     }
 }
 
-// How many data an item is.
+// How many data an item is or carries: 1 or 0.
 fn data_in(item: ItemView<'_>) -> u64
     ensures value { result ≡ counts.data_in_item (item_of item.entry) }
     ensures few { result ≤ 1 }
@@ -143,7 +143,7 @@ fn data_in(item: ItemView<'_>) -> u64
     }
 }
 
-/// What is in an inbox, in a mesh of so many nodes.
+/// An item of an inbox, in a mesh of this many nodes.
 #[derive(Clone, Copy)]
 pub(crate) struct Item {
     pub nodes: u32,
@@ -162,7 +162,7 @@ impl Part for Item {
     }
 }
 
-/// A node, in a mesh of so many.
+/// A node, in a mesh of this many.
 #[derive(Clone, Copy)]
 pub(crate) struct Node {
     pub nodes: u32,
@@ -190,7 +190,7 @@ impl Part for Node {
     }
 }
 
-/// A link, in a mesh of so many nodes.
+/// A link, in a mesh of this many nodes.
 #[derive(Clone, Copy)]
 pub(crate) struct Link {
     pub nodes: u32,
@@ -211,7 +211,7 @@ impl KeyedPart for Link {
     }
 }
 
-/// A copy in flight, in a mesh of so many nodes, with an id below the next.
+/// A copy in flight, in a mesh of this many nodes, with an id below that of the next copy.
 #[derive(Clone, Copy)]
 pub(crate) struct InFlight {
     pub nodes: u32,

@@ -1,6 +1,6 @@
 //! The parts of a checkpoint, each read from the start of the bytes. What is read borrows from the
-//! bytes, so no memory is asked for. Each reader answers what it has read and the bytes behind it,
-//! or None where the bytes don't begin so.
+//! bytes, so no memory is asked for. Each reader answers what it has read and the bytes after it,
+//! or None if the bytes don't begin with such a part.
 ghost use Rattle.std.specs.Prelude.{◌≡◌, ◌<◌, ◌≤◌, ◌^◌, ◌-◌, ◌+◌, length, IfSome, MatchOption};
 ghost use Rattle.mesh_base.specs.declared.limits.TheConstants.{LONGEST_PACKET};
 ghost use Rattle.aodv_model.specs.Soundness.{IsDatum};
@@ -12,8 +12,7 @@ use crate::limits::{DATUM_END, END16, END32, LINK_BASE, LONGEST_HEARD, PACKET_EN
 use crate::numbers::{byte, number16, number32, number64, text, truth};
 use mesh_base::FlyingView;
 
-/// The least key that may follow this one, where the least that might stand here was `low`. None
-/// where this one is below it.
+/// The least key that may follow this one, which has to be at least `low`. None if it is below.
 pub fn rise(low: u64, key: u64) -> Option<u64>
     requires { key < 2 ^ 64 - 1 }
     ensures order { MatchOption result (key < low) (λ above. low ≤ key) }
@@ -45,7 +44,7 @@ pub fn read_station(bytes: &[u8]) -> Option<(Station, &[u8])>
     Some((Station { address, first }, rest))
 }
 
-/// The fields of a route before its precursors, which are so many.
+/// The fields of a route before its precursors, and how many precursors there are.
 #[derive(Clone, Copy)]
 pub struct RouteHead {
     pub dest: usize,
@@ -57,7 +56,7 @@ pub struct RouteHead {
     pub precursors: u16,
 }
 
-/// The fields of a route before its precursors, in a mesh of so many nodes.
+/// The fields of a route before its precursors, in a mesh of this many nodes.
 pub fn read_route_head(bytes: &[u8], nodes: u32) -> Option<(RouteHead, &[u8])>
     ensures value { GoesOn (λ x. route_behind nodes x.0 x.1.now) result
         ((model.route nodes).get bytes.now) }
@@ -92,7 +91,7 @@ pub struct Request {
 }
 
 impl Request {
-    /// Its key, by which requests rise.
+    /// Its key. Requests follow one another by rising key.
     pub fn key(&self) -> u64
         requires { self.now.origin < 2 ^ 16 }
         ensures key { result ≡ model.request_key (self.now.origin, self.now.id) }
@@ -102,7 +101,7 @@ impl Request {
     }
 }
 
-/// A request, in a mesh of so many nodes.
+/// A request, in a mesh of this many nodes.
 pub fn read_request(bytes: &[u8], nodes: u32) -> Option<(Request, &[u8])>
     ensures value { Gives (λ x. ((x.0.origin, x.0.id), x.1.now)) result
         ((model.request nodes).get bytes.now) }
@@ -120,7 +119,7 @@ pub fn read_request(bytes: &[u8], nodes: u32) -> Option<(Request, &[u8])>
     Some((request, rest))
 }
 
-/// What is said of the data that wait for a destination, before these data, which are so many.
+/// The fields before the data that wait for a destination, and how many data there are.
 #[derive(Clone, Copy)]
 pub struct WaitsHead {
     pub dest: usize,
@@ -128,7 +127,7 @@ pub struct WaitsHead {
     pub data: u32,
 }
 
-/// The fields before the data that wait for a destination, in a mesh of so many nodes.
+/// The fields before the data that wait for a destination, in a mesh of this many nodes.
 pub fn read_waits_head(bytes: &[u8], nodes: u32) -> Option<(WaitsHead, &[u8])>
     ensures value { GoesOn (λ x. waits_behind x.0 x.1.now) result
         ((model.waits nodes).get bytes.now) }
@@ -157,7 +156,7 @@ pub fn read_datum(bytes: &[u8]) -> Option<(&[u8], &[u8])>
     text(bytes, 1, DATUM_END)
 }
 
-/// What waits in an inbox, as it is looked at.
+/// An item of an inbox, which borrows from the bytes.
 #[derive(Clone, Copy)]
 pub enum ItemView<'a> {
     /// A datum that the node was given.
@@ -166,7 +165,7 @@ pub enum ItemView<'a> {
     Heard { from: usize, bytes: &'a [u8] },
 }
 
-// A datum for a destination, behind the byte of its kind.
+// A datum for a destination, after the byte of its kind.
 fn read_new(bytes: &[u8], nodes: u32) -> Option<(usize, &[u8], &[u8])>
     ensures value { Gives (λ x. ((x.0, x.1.now), x.2.now)) result
         ((model.datum_format nodes).get bytes.now) }
@@ -178,7 +177,7 @@ fn read_new(bytes: &[u8], nodes: u32) -> Option<(usize, &[u8], &[u8])>
     Some((usize::from(dest), body, rest))
 }
 
-// A packet from a neighbour, behind the byte of its kind.
+// A packet from a neighbour, after the byte of its kind.
 fn read_heard(bytes: &[u8], nodes: u32) -> Option<(usize, &[u8], &[u8])>
     ensures value { Gives (λ x. ((x.0, x.1.now), x.2.now)) result
         ((model.heard_format nodes).get bytes.now) }
@@ -189,7 +188,7 @@ fn read_heard(bytes: &[u8], nodes: u32) -> Option<(usize, &[u8], &[u8])>
     Some((usize::from(from), packet, rest))
 }
 
-/// What waits in an inbox, in a mesh of so many nodes.
+/// An item of an inbox, in a mesh of this many nodes.
 pub fn read_item(bytes: &[u8], nodes: u32) -> Option<(ItemView<'_>, &[u8])>
     ensures value { Gives (λ x. (item_of x.0, x.1.now)) result ((model.item nodes).get bytes.now) }
     ensures datum { IfSome result (λ x. HasDatum x.0) }
@@ -213,7 +212,7 @@ pub struct Link {
 }
 
 impl Link {
-    /// Its key, by which links rise.
+    /// Its key. Links follow one another by rising key.
     pub fn key(&self) -> u64
         requires a { self.now.a < 2 ^ 16 }
         requires b { self.now.b < 2 ^ 16 }
@@ -224,7 +223,7 @@ impl Link {
     }
 }
 
-/// A link, in a mesh of so many nodes.
+/// A link, in a mesh of this many nodes.
 pub fn read_link(bytes: &[u8], nodes: u32) -> Option<(Link, &[u8])>
     ensures value { Gives (λ x. (link_of x.0, x.1.now)) result ((model.link nodes).get bytes.now) }
     ensures rising { IfSome result (λ x. x.0.a < x.0.b) }
@@ -243,7 +242,7 @@ pub fn read_link(bytes: &[u8], nodes: u32) -> Option<(Link, &[u8])>
     Some((link, rest))
 }
 
-/// A copy in flight with an id below the next, in a mesh of so many nodes.
+/// A copy in flight with an id below that of the next copy, in a mesh of this many nodes.
 pub fn read_copy(bytes: &[u8], nodes: u32, next: u64) -> Option<(FlyingView<'_>, &[u8])>
     ensures value { Gives (λ x. (copy_of x.0, x.1.now)) result
         ((model.copy nodes next).get bytes.now) }

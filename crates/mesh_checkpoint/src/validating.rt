@@ -7,14 +7,15 @@ use crate::limits::LONGEST_BODY;
 use crate::numbers::number32;
 use thiserror::Error;
 
-/// Why bytes are no checkpoint that can be gone on from. The first that applies is told.
+/// Why bytes are no checkpoint from which a run can go on. The first reason that applies is
+/// answered.
 #[derive(Clone, Copy, Debug, PartialEq, Eq, Error)]
 pub enum ValidateError {
     /// The first four bytes aren't there, or aren't those of a checkpoint.
     #[error("no checkpoint")]
     NotState,
     /// The length isn't there, is greater than that of the longest body, or isn't that of the bytes
-    /// behind it.
+    /// after it.
     #[error("a wrong length")]
     Length,
     /// The body doesn't follow the table to its end.
@@ -33,8 +34,9 @@ fn is_magic(front: &[u8]) -> bool
     front == b"AWN1".as_slice()
 }
 
-/// Looks through the bytes of a checkpoint, without keeping anything and without memory: how many
-/// data stand in its stores and inboxes and fly. A packet is a datum's where its bytes encode one.
+/// Looks through the bytes of a checkpoint, without keeping anything and without asking for memory:
+/// how many data are in its stores, in its inboxes and in flight. A packet carries a datum if its
+/// bytes encode a data packet.
 pub fn validate(b: &[u8]) -> Result<u64, ValidateError>
     ensures { MatchResult result (IsValidated b.now) (IsRefused b.now) }
 {

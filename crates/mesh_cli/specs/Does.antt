@@ -22,15 +22,15 @@ use Rattle.mesh_cli.specs.declared.words.Command.TheVariants.{Run, Make, Trial}
 abbrev pub made_by : Plan → List ℕ
 made_by plan = made_schedule plan.seed plan.nodes plan.steps
 
--- what holds of the run of every schedule: in no world to which it comes has a destination a loop,
--- in each of them every datum is accounted for, and its text names each datum that was delivered or
--- dropped
+-- what holds for the run of every schedule: in no world that it leads to does a destination have a
+-- loop, in each of these worlds every datum is accounted for, and the run's text names each datum
+-- that was delivered or dropped
 pub record IsSoundRun (variant : Variant) (schedule : List ℕ) : Type 0 where
   pub loop_free : IsLoopFreeRun variant schedule
   pub accounted : IsAccountedRun variant schedule
   pub named : IsNamedRun variant schedule
 
--- the command reads its schedule from the source
+-- whether the command reads its schedule from the source
 abbrev pub reads : Command → Bool
 reads (Run variant quiet) = true
 reads (Make plan) = false
@@ -46,10 +46,10 @@ IsWritten before now text status.ReadFault = ⊥
 IsWritten before now text status.WriteFault = AppendsPrefix before now text
 IsWritten before now text status.NoMemory = ⊥
 
--- what the source has left before and after, what the sink held before and holds now, and the
--- answer. `run` writes the text of the schedule that the source has left; `run --quiet` its last
--- line alone; `make` the made schedule; `trial` the last line of the text of the made schedule.
--- What runs is sound
+-- a command has answered; `left` and `after` are what the source has left before and after it,
+-- `before` and `now` what the sink held and holds. `run` writes the text of the schedule that the
+-- source has left, `run --quiet` only its last line, `make` the made schedule, and `trial` the last
+-- line of the made schedule's text. Each run is sound
 abbrev pub IsCommandRun : Command → Option (List ℕ) → Option (List ℕ) → Option (List ℕ)
     → Option (List ℕ) → Status → Type 0
 IsCommandRun (Run variant quiet) left after before now s =
@@ -65,8 +65,8 @@ IsCommandRun (Trial variant plan) left after before now s =
 abbrev pub IsDoneOrShort : Status → Type 0
 IsDoneOrShort s = (s ≡ status.Done) ⊎ (s ≡ status.NoMemory)
 
--- where nothing has failed and each line is allowed, the command is done, unless memory runs out.
--- `make` takes none
+-- if nothing has failed, the command is done unless its run ends early or memory runs out. `make`
+-- takes no memory
 abbrev pub Completes : Command → Option (List ℕ) → Status → Type 0
 Completes (Run variant quiet) left s =
     IfSome left (λ bytes. (text_of_input variant bytes).verdict ≡ Finished → IsDoneOrShort s)
@@ -74,7 +74,7 @@ Completes (Make plan) left s = s ≡ status.Done
 Completes (Trial variant plan) left s =
     (text_of_input variant (made_by plan)).verdict ≡ Finished → IsDoneOrShort s
 
--- a source was read to its end by a command that reads it
+-- if the command reads the source, it has read it to its end
 abbrev pub IsReadBy : Command → Option (List ℕ) → Type 0
 IsReadBy (Run variant quiet) left = IsAtEnd left
 IsReadBy (Make plan) left = ⊤

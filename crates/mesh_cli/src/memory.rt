@@ -11,7 +11,7 @@ pub enum Memory {
 }
 
 impl Memory {
-    /// Ends a run: takes it apart, or leaves it as it is.
+    /// Ends a run: drops it, or leaves its memory as it is.
     #[inline]
     pub fn end<T: Drop>(self, run: T) {
         match self {

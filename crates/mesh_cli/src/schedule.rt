@@ -12,8 +12,8 @@ use mesh_run::{Point, Running, Say, Status, do_input};
 use mesh_world::World;
 use std::alloc::Global;
 
-/// Runs the schedule that the source gives, where all nodes run this variant of the protocol, and
-/// writes its text, or the last line alone where it is quiet.
+/// Runs the schedule that the source gives, with all nodes running this variant of the protocol,
+/// and writes its text, or only the last line if `quiet`.
 #[inline(never)]
 pub fn run_schedule<I: Source, O: Sink>(
     alloc: Global,

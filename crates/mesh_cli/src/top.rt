@@ -14,7 +14,7 @@ use mesh_make::make;
 use mesh_run::Status;
 use std::alloc::Global;
 
-// Writes a made schedule. It stands apart, so that no other command pays for its frame.
+// Writes a made schedule. It isn't inlined, so that no other command pays for its frame.
 #[inline(never)]
 fn make_schedule<O: Sink>(plan: Plan, out: &mut O) -> Status
     requires { IsPlan plan }
@@ -53,9 +53,9 @@ fn do_command<I: Source, O: Sink>(
 }
 
 /// Does what the words of the command line say, from the source to the sink. `run` reads a schedule
-/// and writes the text of its run, `run --quiet` the text's last line alone; `make` writes the
+/// and writes the text of its run, `run --quiet` only the text's last line; `make` writes the
 /// schedule that a seed makes; `trial` runs such a schedule, and writes the last line of its text.
-/// `run --variant NAME` and `trial --variant NAME` let all nodes run that variant of the protocol.
+/// With `run --variant NAME` and `trial --variant NAME` all nodes run that variant of the protocol.
 /// What `run` writes is gathered in a buffer of 65536 bytes, and handed on when that is full,
 /// before each read of the source, and at the end, unless a write has failed. `make` writes some
 /// 8000 bytes at a time, and takes no memory. The memory of a run is given back at its end, or left
@@ -67,24 +67,25 @@ pub fn mesh<I: Source, O: Sink>(
     out: &mut O,
     memory: Memory,
 ) -> Status
-    // The words are of no form: nothing is read or written.
+    // If the words are in none of the program's forms, nothing is read or written.
     ensures usage_exactly_for_other_words { (result ≡ Status.Usage)
         ↔ (command_of (map (λ w. w.now) words.now) ≡ None) }
     ensures untouched_by_other_words { result ≡ Status.Usage
         → (input.new ≡ input.old) × (out.new ≡ out.old) }
 
-    // What is written is the text that the command asks for, and the answer its verdict. After a
-    // failed write, or where memory runs out, it is a prefix of that text; after a failed read it
-    // is what is written of the lines that were read whole. In no world of the run that is written
-    // so, after any number of its events, does a destination have a loop; in each of them every
-    // datum is accounted for; and the run's text names each that was delivered or dropped. All this
-    // is said where the source tells its bytes; where it doesn't, each world of the run is safe all
-    // the same, as `do_input` says of the state that it leaves. `make` never runs out of memory.
+    // What is written is the text that the command asks for, and the answer is its verdict. After a
+    // failed write or a lack of memory, a prefix of that text is written; after a failed read, what
+    // the command asks for of the lines that were read whole. In no world of the run, after any
+    // number of its events, does a destination have a loop; in each of these worlds every datum is
+    // accounted for; and the run's text names each datum that was delivered or dropped. For `run`
+    // all this is claimed if the source's bytes are known; if they aren't, each world of the run is
+    // safe all the same, as `do_input` says of the state that it leaves. `make` never runs out of
+    // memory.
     ensures text_of_a_loop_free_run { IfSome (command_of (map (λ w. w.now) words.now)) (λ command.
         IsCommandRun command (I.left input.old) (I.left input.new)
         (O.held out.old) (O.held out.new) result) }
 
-    // `run` is done only where the input was read to its end; `make` and `trial` read nothing.
+    // `run` answers Done only if the input was read to its end; `make` and `trial` read nothing.
     ensures done_at_the_end { IfSome (command_of (map (λ w. w.now) words.now)) (λ command.
         result ≡ Status.Done → IsReadBy command (I.left input.new)) }
     ensures nothing_read { IfSome (command_of (map (λ w. w.now) words.now)) (λ command.
@@ -94,14 +95,14 @@ pub fn mesh<I: Source, O: Sink>(
     ensures no_bad_line { IfSome (command_of (map (λ w. w.now) words.now)) (λ command.
         reads command ≡ false → (n : ℕ) → result ≢ Status.BadLine n) }
 
-    // A fault is answered only where the source or the sink has failed in this call, and no other
-    // answer is given where one of them has.
+    // A fault is answered only if the source or the sink has failed in this call, and no other
+    // answer comes if one of them has.
     ensures cause_of_read_fault { HasSourceCause (I.faults input.old) (I.faults input.new) result }
     ensures cause_of_write_fault { HasStatusCause Status.WriteFault
         (O.faults out.old) (O.faults out.new) result }
 
-    // Where every line is allowed and nothing has failed, the whole text is written, unless memory
-    // runs out.
+    // If every line is allowed, no event is refused, and neither the source nor the sink has
+    // failed, the whole text is written, unless memory runs out.
     ensures complete { IfSome (command_of (map (λ w. w.now) words.now)) (λ command.
         (Rose (I.faults input.old) (I.faults input.new) → ⊥)
         → (Rose (O.faults out.old) (O.faults out.new) → ⊥)

@@ -23,7 +23,7 @@ use mesh_text::Verdict;
 use mesh_world::World;
 use std::alloc::Global;
 
-// Does the lines that are still to come, and writes the last line of their text.
+// Does the lines that are still to be made, and writes the last line of their text.
 fn do_made<O: Sink>(
     alloc: Global,
     at: &mut Point<World>,
@@ -52,8 +52,8 @@ fn do_made<O: Sink>(
     Ok(finish(at, Say::Last, out)?)
 }
 
-/// Runs a made schedule, where all nodes run this variant of the protocol, and writes the last line
-/// of its text. The lines are run as values, and none is written or read.
+/// Runs a made schedule, with all nodes running this variant of the protocol, and writes the last
+/// line of its text. The lines are run as values, and none is written or read.
 #[inline(never)]
 pub fn trial<O: Sink>(
     alloc: Global,

@@ -19,17 +19,17 @@ pub struct Plan {
 /// What the words ask for.
 #[derive(Clone, Copy, PartialEq, Eq)]
 pub enum Command {
-    /// To run the schedule that is read, where all nodes run this variant of the protocol, and to
-    /// write its text, or the last line alone.
+    /// To run the schedule that is read, with all nodes running this variant of the protocol, and
+    /// to write its text, or only the last line.
     Run { variant: Variant, quiet: bool },
     /// To write the made schedule.
     Make(Plan),
-    /// To run the made schedule, where all nodes run this variant of the protocol, and to write the
-    /// last line of its text.
+    /// To run the made schedule, with all nodes running this variant of the protocol, and to write
+    /// the last line of its text.
     Trial { variant: Variant, plan: Plan },
 }
 
-// The number that a word denotes, where it is from `least` to `most`.
+// The number that a word denotes, if it is from `least` to `most`.
 #[tactic(auto, unfolding(crate::specs::Words::number_in))]
 fn number_in(word: &str, least: u64, most: u64) -> Option<u64>
     ensures value { result ≡ number_in least most word.now }
@@ -140,9 +140,10 @@ fn of_six(
     }
 }
 
-/// What the words ask for, if they are of a form: `run` or `trial SEED NODES STEPS`, each with
-/// `--variant NAME` after its first word or without; either form of `run` with `--quiet` at its
-/// end; or `make SEED NODES STEPS`. The names are `base`, `number`, `reply` and `error`.
+/// What the words ask for, if they are in one of the program's forms: `run` or
+/// `trial SEED NODES STEPS`, each with or without `--variant NAME` after its first word; either
+/// form of `run` with `--quiet` at its end; or `make SEED NODES STEPS`. The names are `base`,
+/// `number`, `reply` and `error`.
 pub fn command_of(words: &[&str]) -> Option<Command>
     ensures value { result ≡ command_of (map (λ w. w.now) words.now) }
     ensures allowed { IfSome result IsAllowed }

@@ -7,7 +7,7 @@ use Rattle.mesh_fates.specs.declared.fate.Lot.{Lot}
 use Rattle.mesh_fates.specs.declared.fate.Fate.{Fate}
 use Rattle.mesh_fates.specs.Rates.{loss_of}
 
--- a word comes to pass at a rate in thousandths
+-- whether something with this rate, in thousandths, happens by this word
 abbrev pub happens_at : ℕ → ℕ → Bool
 happens_at rate w = nat_lt (w % 1000) rate
 
@@ -31,8 +31,8 @@ pub record Draw : Type 0 where
   pub fate : Fate
   pub rng : Lcg
 
--- the fate of a copy with this lot, where a third word says whether it is doubled: two words more
--- give the lot of the double
+-- the fate of a copy with this lot; a third word has said whether it is doubled. If so, two more
+-- words give the lot of the double
 abbrev pub draw_by : Rates → Bool → Lot → (doubled : Bool) → Lcg → Draw
 draw_by rates unicast lot doubled rng =
     if doubled
@@ -42,7 +42,7 @@ draw_by rates unicast lot doubled rng =
     }
     else record { fate = record { lot = lot; double = None }; rng = rng }
 
--- the fate of a copy by three words, or by five where it is doubled
+-- the fate of a copy by three words, or by five if it is doubled
 unfoldable pub draw : Rates → Bool → Lcg → Draw
 draw rates unicast rng =
     let third = after (after rng) in

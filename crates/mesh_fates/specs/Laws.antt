@@ -13,7 +13,8 @@ use Rattle.mesh_fates.specs.Channels.{Channel, decided, with_double}
 
 -- ---- rates of 0
 
--- where all rates are 0 no copy is lost or doubled: what is left to do stays
+-- if the rates of loss and doubling are 0, no copy is lost or doubled: what is left to do is
+-- unchanged
 abbrev pub LosslessLeavesNothing : Type 0
 LosslessLeavesNothing =
     (rates : Rates) (unicast : Bool) (count id new : ℕ) (c : Channel) → rates.loss ≡ 0
@@ -24,7 +25,7 @@ LosslessLeavesNothing =
 abbrev pub IsOldOrNext : Channel → Due → Type 0
 IsOldOrNext c d = Contains c.plan d ⊎ (d.tick ≡ c.tick + 1)
 
--- where no copy is late each that is planned is due in the next tick
+-- if no copy is late, each that is planned is due in the next tick
 abbrev pub PromptIsDueNext : Type 0
 PromptIsDueNext =
     (rates : Rates) (unicast : Bool) (count id new : ℕ) (c : Channel) → rates.late ≡ 0
@@ -32,7 +33,7 @@ PromptIsDueNext =
 
 -- ---- the plan
 
--- each copy stands before all that follow it
+-- each copy is before all that come after it in the list
 abbrev pub IsOrdered : Plan → Type 0
 IsOrdered [] = ⊤
 IsOrdered (d ∷ plan) = AllByRecursion (λ e. is_before d e ≡ true) plan × IsOrdered plan
@@ -43,7 +44,7 @@ DecidingKeepsOrder =
     (rates : Rates) (unicast : Bool) (count id new : ℕ) (c : Channel) → IsOrdered c.plan
     → IsOrdered (decided rates unicast count id new c).plan
 
--- and so where the input makes a double
+-- it also stays so when the input makes a double
 abbrev pub DoublingKeepsOrder : Type 0
 DoublingKeepsOrder =
     (rates : Rates) (id : ℕ) (c : Channel) → IsOrdered c.plan
@@ -51,7 +52,7 @@ DoublingKeepsOrder =
 
 -- ---- the words
 
--- a generator after so many words
+-- a generator after this many words
 abbrev pub after_words : ℕ → Lcg → Lcg
 after_words zero rng = rng
 after_words (suc n) rng = after_words n (after rng)
@@ -60,7 +61,7 @@ after_words (suc n) rng = after_words n (after rng)
 abbrev pub words_of : Fate → ℕ
 words_of fate = if is_some fate.double then 5 else 3
 
--- a fate takes three words, or five where the copy is doubled
+-- a fate takes three words, or five if the copy is doubled
 abbrev pub FatesTakeWords : Type 0
 FatesTakeWords =
     (rates : Rates) (unicast : Bool) (rng : Lcg)

@@ -6,7 +6,7 @@ use Rattle.mesh_fates.specs.declared.decided.Decided.{Decided}
 use Rattle.mesh_fates.specs.declared.decided.Decided.TheVariants as decided
 use Rattle.mesh_fates.specs.Plans.{Plan}
 
--- the event that does it
+-- the event that does what is decided
 abbrev pub event_left : Decided → Event
 event_left (decided.Lose id) = Lose id
 event_left (decided.Double id) = Double id
@@ -14,7 +14,7 @@ event_left (decided.Double id) = Double id
 abbrev pub events_left : List Decided → List Event
 events_left left = map event_left left
 
--- the event is the loss or the doubling of a copy with a number from 1 on
+-- if the event is the loss or the doubling of a copy, the copy has a number from 1 on
 abbrev pub IsNumbered : Event → Type 0
 IsNumbered (Lose id) = 1 ≤ id
 IsNumbered (Double id) = 1 ≤ id

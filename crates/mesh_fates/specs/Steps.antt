@@ -8,11 +8,11 @@ use Rattle.mesh_fates.specs.Plans.{with_due}
 use Rattle.mesh_fates.specs.Left.{event_left}
 use Rattle.mesh_fates.specs.Channels.{Channel, due_at, planned, planned_double, losses, doublings, with_fate}
 
--- copy id is planned, late by this delay
+-- copy id is planned, with this delay
 abbrev pub planned_late : Channel → ℕ → ℕ → Channel
 planned_late c id delay = record c { plan = with_due c.plan (due_at c.tick id delay) }
 
--- one thing more is left to do
+-- one more thing is left to do
 abbrev pub with_left : Channel → Decided → Channel
 with_left c decided = record c { left = c.left ++ event_left decided ∷ [] }
 
@@ -23,7 +23,7 @@ settled c id lot = record c {
   left = c.left ++ losses id lot;
 }
 
--- copy id is doubled, where there is a lot of a double
+-- copy id is doubled, if there is a lot for a double
 abbrev pub settled_double : Channel → ℕ → ℕ → Option Lot → Channel
 settled_double c id new lot = record c {
   plan = planned_double c.plan c.tick new lot;

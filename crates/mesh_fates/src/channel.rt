@@ -19,7 +19,7 @@ use std::alloc::Global;
 use std::collections::{BTreeSet, VecDeque};
 use std::marker::Model;
 
-/// The greatest tick at which a channel decides of copies.
+/// The greatest tick at which a channel decides what happens to copies.
 pub const GREATEST_TICK: u64 = 4_611_686_018_427_387_904;
 
 /// A random channel. It takes memory for the copies that are due and for what is left to do.
@@ -48,8 +48,8 @@ impl Model for Channel {
 }
 
 impl Channel {
-    /// The channel of a seed, before the first event. It takes no memory, but keeps the allocator
-    /// from which memory is taken.
+    /// The channel of a seed, before the first event. It takes no memory yet, but keeps the
+    /// allocator for later.
     #[tactic(auto, unfolding(crate::specs::Channels::opening))]
     pub fn new(alloc: Global, seed: u64) -> Channel
         ensures { result ≡ opening seed }
@@ -76,7 +76,7 @@ impl Channel {
         self.tick = tick;
     }
 
-    /// The first copy that is due, if any is.
+    /// The first copy of the plan, if there is one.
     pub fn first_due(&self) -> Option<Due>
         ensures first { result ≡ slice_get self.now.plan 0 }
         ensures number { IfSome result (λ d. 1 ≤ d.id) }
@@ -84,14 +84,15 @@ impl Channel {
         self.plan.first().copied()
     }
 
-    /// Takes the first copy that is due out of the plan, if any is.
+    /// Takes the first copy out of the plan, if there is one.
     pub fn take_due(&mut self)
         ensures { self.new ≡ record self.old { plan = drop 1 self.old.plan } }
     {
         self.plan.pop_first();
     }
 
-    /// Takes the next event, the loss or the doubling of a copy, that is left to do, if any is.
+    /// Takes the next event that is left to do, the loss or the doubling of a copy, if there is
+    /// one.
     pub fn next_left(&mut self) -> Option<Event<'static>>
         ensures next { option_map event_of result ≡ slice_get self.old.left 0 }
         ensures left { self.new ≡ record self.old { left = drop 1 self.old.left } }
@@ -103,7 +104,7 @@ impl Channel {
         }
     }
 
-    // Plans a copy that is late by this delay.
+    // Plans a copy with this delay.
     fn plan_copy(&mut self, id: u64, delay: u16) -> Result<(), NoMemory>
         requires tick { self.old.tick ≤ GREATEST_TICK }
         requires number { 1 ≤ id }
@@ -114,7 +115,7 @@ impl Channel {
         Ok(())
     }
 
-    // Leaves this to do.
+    // Adds this to what is left to do.
     fn leave(&mut self, decided: Decided) -> Result<(), NoMemory>
         requires number { IsNumbered (event_left decided) }
         ensures left { OnOk result (self.new ≡ with_left self.old decided) }
@@ -123,7 +124,7 @@ impl Channel {
         Ok(())
     }
 
-    // A copy with this lot is planned, or else is to be lost.
+    // Plans a copy with this lot, or leaves its loss to do.
     fn settle(&mut self, id: u64, lot: Lot) -> Result<(), NoMemory>
         requires tick { self.old.tick ≤ GREATEST_TICK }
         requires number { 1 ≤ id }
@@ -136,7 +137,8 @@ impl Channel {
         }
     }
 
-    // What is decided of a double: its copy is doubled, and then it has a lot of its own.
+    // Follows what is decided of a double, if there is one: its copy is doubled, and then the
+    // double has a lot of its own.
     fn settle_double(&mut self, id: u64, new: u64, lot: Option<Lot>) -> Result<(), NoMemory>
         requires tick { self.old.tick ≤ GREATEST_TICK }
         requires number { 1 ≤ id }
@@ -150,8 +152,8 @@ impl Channel {
         Ok(())
     }
 
-    // Draws the fate of a copy, whose double has the number `new`, and follows it. It answers the
-    // number of the next double.
+    // Draws the fate of a copy, whose double would have the number `new`, and follows it. Returns
+    // the number of the next double.
     fn decide_one(
         &mut self,
         rates: &Rates,
@@ -173,8 +175,9 @@ impl Channel {
         Ok(new + u64::from(fate.double.is_some()))
     }
 
-    /// Decides of the copies of a cast, which are numbered from `first` on; their doubles are
-    /// numbered from `first + count` on. After want of memory nothing is known of the channel.
+    /// Decides what happens to the copies of a cast, which are numbered from `first` on; their
+    /// doubles are numbered from `first + count` on. After a lack of memory nothing is known of the
+    /// channel.
     pub fn decide(
         &mut self,
         rates: &Rates,
@@ -197,8 +200,8 @@ impl Channel {
         Ok(())
     }
 
-    /// Decides of a double that the input has made: it draws its delay alone. After want of memory
-    /// nothing is known of the channel.
+    /// Decides what happens to a double that the input has made: it draws only its delay. After a
+    /// lack of memory nothing is known of the channel.
     pub fn delay_double(&mut self, rates: &Rates, id: u64) -> Result<(), NoMemory>
         requires tick { self.old.tick ≤ GREATEST_TICK }
         requires number { 1 ≤ id }

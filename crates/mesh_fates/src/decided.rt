@@ -13,7 +13,7 @@ pub(crate) enum Decided {
 }
 
 impl Decided {
-    /// The event that does it.
+    /// The event that does what is decided.
     pub(crate) fn event(self) -> Event<'static>
         ensures { event_of result ≡ event_left self }
     {

@@ -15,14 +15,14 @@ pub struct Lot {
     pub delay: u16,
 }
 
-/// The lot of a copy; and of its double, where it is doubled.
+/// The lot of a copy, and that of its double if it is doubled.
 #[derive(Clone, Copy)]
 pub struct Fate {
     pub lot: Lot,
     pub double: Option<Lot>,
 }
 
-// Whether the next word comes to pass at a rate in thousandths.
+// Whether something with this rate, in thousandths, happens by the next word.
 fn happens(rate: u16, rng: &mut Lcg64Xsh32) -> bool
     ensures happens { result ≡ happens_at rate (word rng.old) }
     ensures after { rng.new ≡ after rng.old }
@@ -59,7 +59,7 @@ fn draw_lot(rates: &Rates, unicast: bool, rng: &mut Lcg64Xsh32) -> Lot
     Lot { lost, delay }
 }
 
-/// The fate of a copy, by the next three words, or by five where it is doubled.
+/// The fate of a copy, by the next three words, or by five if it is doubled.
 #[tactic(auto, unfolding(crate::specs::Fates::draw))]
 pub(crate) fn draw_fate(rates: &Rates, unicast: bool, rng: &mut Lcg64Xsh32) -> Fate
     ensures fate { result ≡ (draw rates.now unicast rng.old).fate }

@@ -1,12 +1,12 @@
 //! Laws of the definitions. Each function has an empty body and a contract that states a law.
 ghost use Rattle.mesh_fates.specs.Laws.{LosslessLeavesNothing, PromptIsDueNext, DecidingKeepsOrder, DoublingKeepsOrder, FatesTakeWords, CastsTakeWords};
 
-/// Where all rates are 0 no copy is lost or doubled.
+/// If the rates of loss and doubling are 0, no copy is lost or doubled.
 pub fn lossless_leaves_nothing()
     ensures { LosslessLeavesNothing }
 {}
 
-/// Where no copy is late each that is planned is due in the next tick.
+/// If no copy is late, each that is planned is due in the next tick.
 pub fn prompt_is_due_next()
     ensures { PromptIsDueNext }
 {}
@@ -16,12 +16,12 @@ pub fn deciding_keeps_order()
     ensures { DecidingKeepsOrder }
 {}
 
-/// A plan stays ordered where the input makes a double.
+/// A plan stays ordered when the input makes a double.
 pub fn doubling_keeps_order()
     ensures { DoublingKeepsOrder }
 {}
 
-/// A fate takes three words, or five where the copy is doubled.
+/// A fate takes three words, or five if the copy is doubled.
 pub fn fates_take_words()
     ensures { FatesTakeWords }
 {}

@@ -1,4 +1,5 @@
-//! What a random channel decides of copies: which are lost or doubled, and when the others are due.
+//! What a random channel decides of copies: which are lost or doubled, and when those not lost are
+//! due.
 #![tactic(auto)]
 
 mod channel;

@@ -10,7 +10,7 @@ use Rattle.mesh_grammar.specs.declared.form.Form.TheVariants.{Bare, Address, Add
 use Rattle.mesh_grammar.specs.Words.{SpannedAddr}
 use Rattle.mesh_grammar.specs.Scripts.{Row, Shape, shape_by}
 
--- the greatest number of a copy, which has 64 bits
+-- the greatest id of a copy, which has 64 bits
 abbrev pub greatest_id : ℕ
 greatest_id = 18446744073709551615
 

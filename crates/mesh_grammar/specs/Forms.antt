@@ -1,6 +1,6 @@
 -- Part of what the headline says.
--- The arguments of a command, by their form. The words after the command are given, and the byte at
--- which the first begins.
+-- The arguments of a command, by their form. They are read from the words after the command, and
+-- the byte at which the first word begins.
 use Rattle.std.specs.Prelude.{◌≤◌, ℕ, List, [], ◌∷◌, Result, Ok, Err, length, codes, if◌then◌else◌, ⊤}
 use Rattle.std.specs.List.{join_with_byte, AllByRecursion}
 use Rattle.std.specs.Str.{bytes_eq}
@@ -11,8 +11,8 @@ use Rattle.mesh_grammar.specs.declared.form.Form.{Form}
 use Rattle.mesh_grammar.specs.declared.form.Form.TheVariants as form
 use Rattle.mesh_grammar.specs.Words.{SpannedAddr, next_at, address_at, number_at, text_at}
 
--- arguments in which an A stands for each address: an address with its span where a line is read,
--- a node's index once it is allowed
+-- arguments with an A for each address: an address with its span when a line is read, a node's
+-- index once the line is allowed
 pub data Arguments (A : Type 0) : Type 0 where
   NoArgument : Arguments A
   OneAddress : (a : A) → Arguments A
@@ -27,7 +27,7 @@ pub data Arguments (A : Type 0) : Type 0 where
 abbrev pub greatest_first : ℕ
 greatest_first = 4294967295
 
--- ---- what is made of the words of each form
+-- ---- what is read from the words, for each form
 
 abbrev pub no_argument : {B : Type 0} → List (List ℕ) → B → Result B LineFault
 no_argument [] made = Ok made
@@ -88,7 +88,7 @@ address_and_text at (a ∷ t ∷ ts) make =
     text_at (next_at at a) (join_with_byte 32 (t ∷ ts)) (λ text. Ok (make x text)))
 address_and_text at others make = Err Count
 
--- the arguments of this form
+-- the arguments of this form that the words give, or the first fault
 abbrev pub arguments_of : Form → ℕ → List (List ℕ) → Result (Arguments SpannedAddr) LineFault
 arguments_of form.Bare at words = no_argument words NoArgument
 arguments_of form.Address at words = one_address at words OneAddress

@@ -11,15 +11,15 @@ use Rattle.mesh_grammar.specs.Written.{command_text}
 
 -- ---- what is written is read
 
--- an address and where it stands
+-- an address with its span, if it begins at this byte
 abbrev pub spanned : ℕ → ℕ → SpannedAddr
 spanned at a = record { address = a; span = span_at at (dotted_decimal a) }
 
--- where the word after an address stands
+-- where the word after an address begins
 abbrev pub after_address : ℕ → ℕ → ℕ
 after_address at a = next_at at (dotted_decimal a)
 
--- written arguments, the first at this byte, as they are read
+-- the arguments that are read from written ones, the first of which begins at this byte
 abbrev pub as_spanned : ℕ → Arguments ℕ → Arguments SpannedAddr
 as_spanned at NoArgument = NoArgument
 as_spanned at (OneAddress a) = OneAddress (spanned at a)
@@ -47,16 +47,16 @@ IsReadable (form.Number most) = most < 2 ^ 64
 IsReadable (form.AddressNumber most) = most < 2 ^ 64
 IsReadable others = ⊤
 
--- a table of such forms
+-- a table whose forms are all readable
 abbrev pub AreReadable : {C : Type 0} → List (Row C) → Type 0
 AreReadable rows = AllByRecursion (λ row. IsReadable row.form) rows
 
--- a word with no space, which begins no remark
+-- a word that isn't empty, has no space and doesn't begin a remark
 pub record IsWord (word : List ℕ) : Type 0 where
   pub whole : AllByRecursion (λ b. b ≢ 32) word
   pub shown : is_blank word ≢ true
 
--- a row that its word finds in the table, with arguments that it allows
+-- a row that is found in the table by its word, and arguments that it allows
 pub record IsLine {C : Type 0} (rows : List (Row C)) (row : Row C) (arguments : Arguments ℕ) :
     Type 0 where
   pub found : row_in rows row.word ≡ Some row
@@ -65,7 +65,7 @@ pub record IsLine {C : Type 0} (rows : List (Row C)) (row : Row C) (arguments : 
   pub form : AreOfForm row.form arguments
   pub addresses : HaveAddresses arguments
 
--- a command and its arguments, as they are written, are read as they were
+-- a command and its arguments that are written as a line are read back from it as they were
 abbrev pub WrittenLineIsRead : (C : Type 0) → Type 0
 WrittenLineIsRead C = (rows : List (Row C)) (row : Row C) (arguments : Arguments ℕ)
     → IsLine rows row arguments
@@ -75,9 +75,9 @@ WrittenLineIsRead C = (rows : List (Row C)) (row : Row C) (arguments : Arguments
       arguments = as_spanned (next_at 0 row.word) arguments;
     }))
 
--- ---- what is read is as it is written
+-- ---- what is read is the text of what was read
 
--- arguments with each spanned address
+-- arguments with each address without its span
 abbrev pub addresses_of : Arguments SpannedAddr → Arguments ℕ
 addresses_of NoArgument = NoArgument
 addresses_of (OneAddress a) = OneAddress a.address
@@ -88,7 +88,7 @@ addresses_of (AddressesAndText a b text) = AddressesAndText a.address b.address 
 addresses_of (AddressAndNumber a n) = AddressAndNumber a.address n
 addresses_of (AddressAndText a text) = AddressAndText a.address text
 
--- the line is the text of this word and these arguments, or names an address without its number,
+-- the line is the text of this word and these arguments, or gives an address without its number,
 -- which is 1
 abbrev pub IsTextOf : List ℕ → List ℕ → Arguments ℕ → Type 0
 IsTextOf line word (NumberedAddress a first) =
@@ -96,7 +96,7 @@ IsTextOf line word (NumberedAddress a first) =
     ⊎ ((first ≡ 1) × (line ≡ command_text word (OneAddress a)))
 IsTextOf line word arguments = line ≡ command_text word arguments
 
--- a row of the table that the line's first word finds, with what the line says after it
+-- a row that is found in the table by the line's first word, and what the line says after that word
 pub record IsRead {C : Type 0} (rows : List (Row C)) (line : List ℕ) (s : Shape C SpannedAddr)
     (row : Row C) : Type 0 where
   pub found : row_in rows row.word ≡ Some row
@@ -106,7 +106,7 @@ pub record IsRead {C : Type 0} (rows : List (Row C)) (line : List ℕ) (s : Shap
   pub text : IsTextOf line row.word (addresses_of s.arguments)
 
 -- a line that is read as a command and its arguments has arguments of the command's form, and is
--- their text
+-- the text of both
 abbrev pub ReadLineIsWritten : (C : Type 0) → Type 0
 ReadLineIsWritten C = (rows : List (Row C)) (line : List ℕ) (s : Shape C SpannedAddr)
     → AreReadable rows → shape_by rows line ≡ Ok (Some s) → (row : Row C) × IsRead rows line s row

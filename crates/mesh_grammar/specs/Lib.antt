@@ -3,13 +3,13 @@
 pub mod Words
 -- Forms: the arguments of a command.
 pub mod Forms
--- Scripts: a line by the table of a script's commands.
+-- Scripts: a line, read by the table of a script's commands.
 pub mod Scripts
 -- Commands: the table of a schedule.
 pub mod Commands
--- Written: a line as it is written.
+-- Written: a line in its written form.
 pub mod Written
--- Lines: the lines of an input.
+-- Lines: the complete lines of some bytes.
 pub mod Lines
 -- Faults: why a line is refused, in words.
 pub mod Faults

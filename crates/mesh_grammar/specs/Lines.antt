@@ -1,4 +1,4 @@
--- The lines of some bytes that an LF ends.
+-- The complete lines of some bytes: those that an LF ends.
 use Rattle.std.specs.Prelude.{ℕ, List, [], ◌∷◌, ◌++◌}
 use Rattle.mesh_base.specs.Parts.{parts}
 
@@ -8,6 +8,6 @@ complete_parts [] = []
 complete_parts (last ∷ []) = []
 complete_parts (line ∷ next ∷ others) = line ++ 10 ∷ complete_parts (next ∷ others)
 
--- the lines of some bytes that an LF ends, each with its LF
+-- the complete lines of some bytes, each with its LF
 abbrev pub complete : List ℕ → List ℕ
 complete bytes = complete_parts (parts 10 bytes)

@@ -1,5 +1,5 @@
 -- Part of what the headline says.
--- A line by the table of its script's commands. A script has commands of its own, C.
+-- A line, read by the table of its script's commands. A script has commands of its own, C.
 use Rattle.std.specs.Prelude.{ℕ, List, [], ◌∷◌, Option, Some, None, Result, Ok, Err, if◌then◌else◌}
 use Rattle.std.specs.Str.{bytes_eq}
 use Rattle.mesh_base.specs.Parts.{parts}
@@ -15,7 +15,7 @@ pub record Row (C : Type 0) : Type 0 where
   pub word : List ℕ
   pub form : Form
 
--- a command with its arguments, in which an A stands for each address
+-- a command with its arguments, which have an A for each address
 pub record Shape (C A : Type 0) : Type 0 where
   pub command : C
   pub arguments : Arguments A
@@ -30,7 +30,7 @@ abbrev pub shape_with : {C : Type 0} → C → Result (Arguments SpannedAddr) Li
 shape_with command (Ok arguments) = Ok (Some (record { command = command; arguments = arguments }))
 shape_with command (Err fault) = Err fault
 
--- a line by the row of its first word, and the words after it
+-- what a line says, by the row of its first word and by the words after it
 abbrev pub by_row : {C : Type 0} → Option (Row C) → List ℕ → List (List ℕ)
     → Result (Option (Shape C SpannedAddr)) LineFault
 by_row None word others = Err (Word (span_at 0 word))

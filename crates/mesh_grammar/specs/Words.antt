@@ -9,7 +9,7 @@ use Rattle.mesh_grammar.specs.declared.fault.Span.{Span}
 use Rattle.mesh_grammar.specs.declared.fault.LineFault.{LineFault}
 use Rattle.mesh_grammar.specs.declared.fault.LineFault.TheVariants.{BadAddress, BadNumber, BadText}
 
--- an address that a line names, and where it stands in the line
+-- an address that a line names, and where in the line it is
 pub record SpannedAddr : Type 0 where
   pub address : ℕ
   pub span : Span
@@ -22,7 +22,7 @@ span_at at word = record { from = at; to = at + length word }
 abbrev pub next_at : ℕ → List ℕ → ℕ
 next_at at word = at + length word + 1
 
--- what is made of an argument that is of its form; else the fault
+-- goes on with an argument that was read, or gives the fault
 abbrev pub with_argument : {A B : Type 0} → Option A → LineFault → (A → Result B LineFault)
     → Result B LineFault
 with_argument None fault next = Err fault
@@ -52,7 +52,7 @@ is_text bytes =
 abbrev pub text_of : List ℕ → Option (List ℕ)
 text_of bytes = if is_text bytes then Some bytes else None
 
--- what stands from this byte to the line's end, as a datum's text
+-- the bytes from this one to the line's end, as a datum's text
 abbrev pub text_at : {B : Type 0} → ℕ → List ℕ → (List ℕ → Result B LineFault) → Result B LineFault
 text_at at bytes next = with_argument (text_of bytes) (BadText (span_at at bytes)) next
 

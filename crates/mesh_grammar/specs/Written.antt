@@ -1,5 +1,5 @@
 -- Part of what the headline says.
--- A line as it is written: a command's word, and each argument after one space.
+-- A line in its written form: a command's word, and each argument after one space.
 use Rattle.std.specs.Prelude.{ℕ, List, [], ◌∷◌, ◌++◌, codes}
 use Rattle.std.specs.Fmt.{decimal}
 use Rattle.mesh_base.specs.Addresses.{dotted_decimal}
@@ -13,7 +13,7 @@ line text = text ++ 10 ∷ []
 abbrev pub label_number : List ℕ → ℕ → List ℕ
 label_number label n = label ++ decimal n
 
--- a word and its arguments, in which each address stands for itself. A first number is always
+-- a word and its arguments, with the addresses themselves. A first sequence number is always
 -- written
 unfoldable pub command_text : List ℕ → Arguments ℕ → List ℕ
 command_text word NoArgument = word

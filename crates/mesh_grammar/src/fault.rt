@@ -10,27 +10,27 @@ pub struct Span {
 /// What is wrong with a line, in the order in which faults are looked for.
 #[derive(Clone, Copy, Debug, PartialEq, Eq)]
 pub enum LineFault {
-    /// The first word is no command.
+    /// The first word isn't a command.
     Word(Span),
-    /// The command has another number of words.
+    /// The line has the wrong number of words for its command.
     Count,
-    /// An address was due.
+    /// An address was expected.
     BadAddress(Span),
-    /// A number in its range was due.
+    /// A number in its range was expected.
     BadNumber(Span),
-    /// A text of 1 to 512 bytes from the space to the tilde was due.
+    /// A text of 1 to 512 bytes from the space to the tilde was expected.
     BadText(Span),
     /// A `node` line comes after a line that is neither blank nor a `node` line.
     Late,
     /// Another command comes before the first node.
     Early,
-    /// The address is a node already.
+    /// The address is already that of a node.
     TwiceNode(Span),
-    /// There are 200 nodes.
+    /// There are already 200 nodes.
     TooManyNodes,
-    /// The address is no node.
+    /// No node has the address.
     Unknown(Span),
-    /// A link was to lead from a node to itself.
+    /// The two ends of a link are the same node.
     Same,
 }
 
@@ -40,6 +40,6 @@ pub enum BadWhy {
     Fault(LineFault),
     /// The line has a 601st byte.
     TooLong,
-    /// The line has the input's byte 16777217, as its own or as its end.
+    /// Byte 16777217 of the input, counted from 1, is in the line or is its LF.
     TooMuch,
 }

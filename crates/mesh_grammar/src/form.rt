@@ -1,4 +1,4 @@
-//! What may stand after a command.
+//! What may come after a command.
 
 /// The form of a command's arguments.
 #[derive(Clone, Copy, PartialEq, Eq)]
@@ -11,12 +11,13 @@ pub enum Form {
     Addresses,
     /// A number from 1 to the most that is allowed.
     Number { most: u64 },
-    /// An address, and after the word `sn` a first sequence number; without it the number is 1.
+    /// An address, then the word `sn` and a first sequence number; or an address alone, and the
+    /// number is 1.
     Numbered,
-    /// Two addresses, and a text that goes to the line's end.
+    /// Two addresses, and a text that goes up to the line's end.
     Text,
     /// An address, and a number from 1 to the most that is allowed.
     AddressNumber { most: u64 },
-    /// An address, and a text that goes to the line's end.
+    /// An address, and a text that goes up to the line's end.
     AddressText,
 }

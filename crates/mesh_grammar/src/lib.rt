@@ -1,9 +1,9 @@
 //! What a line of a script says: its words, the forms of a command's arguments, the table of a
-//! schedule's commands, and the faults for which a line is refused. A script of another program
-//! brings its own table, and takes all else from here.
+//! schedule's commands, and the faults for which a line is refused. A script of another program has
+//! its own table, and takes all else from here.
 //!
-//! These are definitions for the contracts of other crates, with their laws; a program has only the
-//! commands, forms and faults of them.
+//! These are definitions for the contracts of other crates, with their laws; of these a program has
+//! only the commands, forms and faults.
 #![tactic(auto)]
 
 mod command;

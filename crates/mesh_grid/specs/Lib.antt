@@ -1,15 +1,15 @@
 -- Read in this order.
 -- Places: places on a grid, which are within reach of each other, and where nodes are.
 pub mod Places
--- Lines: the lines that put a node to a place.
+-- Lines: the lines that put a node at a place.
 pub mod Lines
--- Links: the links that are due, and the changes that follow where a node comes to a place.
+-- Links: the links that are due, and the changes that follow when a node comes to a place.
 pub mod Links
 -- Text: the text of a run with places, and its verdict.
 pub mod Text
 -- Runs: the events of a run with places, and the states and worlds that they lead through.
 pub mod Runs
--- Seen: what the program answers, as the definitions have it.
+-- Seen: the definitions' events for the code's event.
 pub mod Seen
 -- Laws: what is proved of these definitions.
 pub mod Laws

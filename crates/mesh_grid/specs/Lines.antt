@@ -1,6 +1,6 @@
--- The lines that put a node to a place: `place ADDR X Y` for the first time, and `move ADDR X Y`
--- from another place. Lines `link` and `cut` are no commands of a run with places; any other line
--- is as in a schedule.
+-- The lines that put a node at a place: `place ADDR X Y` for the first time, and `move ADDR X Y`
+-- from another place. `link` and `cut` are no commands of a run with places; any other line is as
+-- in a schedule.
 use Rattle.std.specs.Prelude.{ℕ, ◌==◌, Bool, true, false, ◌||◌, if◌then◌else◌, List, [], ◌∷◌, ◌++◌, Option, Some, None, Result, Ok, Err, length, codes}
 use Rattle.std.specs.Str.{bytes_eq}
 use Rattle.std.specs.Fmt.{decimal}
@@ -21,13 +21,13 @@ abbrev pub coordinate_at : {B : Type 0} → ℕ → List ℕ → (ℕ → Result
 coordinate_at at word next =
     with_argument (number_up_to GREATEST_PLACE word) (BadNumber (span_at at word)) next
 
--- the node of the mesh that has come to this place
+-- the node of this address, which has to be in the mesh, comes to this place
 abbrev pub placing_in : Nodes → Bool → SpannedAddr → Place → Result (Option Placing) LineFault
 placing_in mesh first a place =
     if length mesh == 0 then Err Early else
     as_node mesh a (λ x. Ok (Some (record { first = first; node = x; place = place })))
 
--- an address and two coordinates, the first word at this byte
+-- an address and two coordinates; the first of these words begins at this byte
 abbrev pub placing_at : Nodes → Bool → ℕ → List (List ℕ) → Result (Option Placing) LineFault
 placing_at mesh first at (a ∷ x ∷ y ∷ []) =
     address_at at a (λ node.
@@ -44,7 +44,7 @@ placing_by mesh (w ∷ ws) =
     if bytes_eq w (codes "link") || bytes_eq w (codes "cut") then Err (Word (span_at 0 w)) else
     Ok None
 
--- what a line says of a node's place, or its first fault; None where it is as in a schedule
+-- what a line says of a node's place, or its first fault; None if the line is as in a schedule
 unfoldable pub placing_of : Nodes → List ℕ → Result (Option Placing) LineFault
 placing_of mesh line = placing_by mesh (parts 32 line)
 

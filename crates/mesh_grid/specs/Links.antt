@@ -1,4 +1,4 @@
--- The links that are due between nodes with places, and the changes that follow where a node comes
+-- The links that are due between nodes with places, and the changes that follow when a node comes
 -- to a place.
 use Rattle.std.specs.Prelude.{ℕ, zero, suc, ◌==◌, not, ◌&&◌, min, max, Bool, true, false, if◌then◌else◌, List, [], ◌∷◌, ◌++◌, Option, Some, None}
 use Rattle.std.specs.FinSet as sets
@@ -11,7 +11,7 @@ use Rattle.mesh_grid.specs.Places.{is_within, place_of, with_place}
 
 -- ---- links that are due
 
--- both have a place, and the one is within reach of the other
+-- both have a place, and the two places are within reach of each other
 abbrev pub are_near : ℕ → Option Place → Option Place → Bool
 are_near reach (Some p) (Some q) = is_within reach p q
 are_near reach others place = false
@@ -23,8 +23,8 @@ is_due reach places a b =
 
 -- ---- changes
 
--- the link of x and y, the smaller first, comes to stand where it is due and doesn't stand; it
--- falls where it stands and isn't due
+-- the link between x and y, the smaller first, is made if it is due and doesn't stand; it is cut if
+-- it stands and isn't due
 abbrev pub change : (due stands : Bool) → ℕ → ℕ → List Event
 change true false x y = Link (min x y) (max x y) ∷ []
 change false true x y = Cut (min x y) (max x y) ∷ []
@@ -35,13 +35,14 @@ abbrev pub change_with : ℕ → ℕ → Place → ℕ → Option Place → Bool
 change_with reach x p y None stands = []
 change_with reach x p y (Some q) stands = change (is_within reach p q) stands x y
 
--- the same with any node; `near` are the nodes that x is linked to
+-- the change between the node that has come to a place and any node y; `near` are the nodes that
+-- the first is linked to
 abbrev pub change_at : ℕ → Places → NodeIds → Placing → ℕ → List Event
 change_at reach places near new y =
     if y == new.node then [] else
     change_with reach new.node new.place y (place_of places y) (sets.contains near y)
 
--- the changes with the nodes below n, by rising node
+-- the changes with the nodes below n, by ascending node
 abbrev pub changes_below : ℕ → Places → NodeIds → Placing → ℕ → List Event
 changes_below reach places near new zero = []
 changes_below reach places near new (suc n) =
@@ -49,7 +50,7 @@ changes_below reach places near new (suc n) =
 
 -- ---- whether a node may come to a place
 
--- `place` puts a node that has no place, `move` one that has a place
+-- `place` is for a node that has no place, `move` for one that has a place
 abbrev pub is_enabled : Bool → Option Place → Bool
 is_enabled first None = first
 is_enabled first (Some p) = not first

@@ -27,26 +27,27 @@ pub record RunState : Type 0 where
   pub run : schedule.RunState
   pub places : Places
 
--- before the first line
+-- the state before the first line
 abbrev pub opening : Variant → RunState
 opening variant = record { run = schedule.opening variant; places = no_places }
 
--- a line was neither blank nor a `node` line. One about places starts a run without its world
+-- whether some line was neither blank nor a `node` line. A line about places starts a run without
+-- making its world
 abbrev pub has_begun : RunState → Bool
 has_begun m = m.places.begun || is_some m.run.world
 
 -- ---- a node comes to a place
 
--- the changes of links that follow: with each other node that has a place, by rising node
+-- the changes of links that follow: with each other node that has a place, by ascending node
 abbrev pub changes : ℕ → RunState → Placing → List Event
 changes reach m new =
     changes_below reach m.places (range (schedule.world_of m.run) new.node) new (length m.run.mesh)
 
--- each on a line below
+-- a change, on a line of its own below that of the node
 abbrev pub change_line : Nodes → Event → List ℕ
 change_line mesh e = line (codes "  " ++ event_words mesh e)
 
--- the line as it stands, and its changes; `idle` where the node may not come there
+-- the line as it was read, and its changes; `idle` if the node may not come there
 abbrev pub outcome_of_placing : ℕ → RunState → List ℕ → Placing → text.LineOutcome
 outcome_of_placing reach m bytes new =
     if may_come m.places new
@@ -56,7 +57,7 @@ outcome_of_placing reach m bytes new =
 
 -- ---- one line
 
--- a line as in a schedule; but a line about places, too, makes a later `node` line late
+-- a line as in a schedule, except that a line about places also makes a later `node` line late
 abbrev pub other_line : RunState → List ℕ → Result schedule.AcceptedLine LineFault
 other_line m bytes = schedule.line_of m.run.mesh (has_begun m) bytes
 
@@ -70,7 +71,7 @@ unfoldable pub outcome_of_piece : ℕ → RunState → Piece → text.LineOutcom
 outcome_of_piece reach m (Whole bytes) = outcome_by reach m bytes (placing_of m.run.mesh bytes)
 outcome_of_piece reach m others = text.outcome_of_piece m.run others
 
--- where the nodes are after it
+-- where the nodes are after a line
 abbrev pub places_by : Places → Result (Option Placing) LineFault → Places
 places_by places (Ok (Some new)) = with_placing places new
 places_by places (Ok None) = places
@@ -80,7 +81,7 @@ unfoldable pub places_after : RunState → Piece → Places
 places_after m (Whole bytes) = places_by m.places (placing_of m.run.mesh bytes)
 places_after m others = m.places
 
--- the state after a line that has led the run to this one
+-- the state after a line that has led the run to state n
 abbrev pub next : RunState → Piece → schedule.RunState → RunState
 next m piece n = record { run = n; places = places_after m piece }
 
@@ -95,13 +96,13 @@ RunText = shell.RunText RunState Verdict
 abbrev pub ending : RunState → shell.Ending RunState Verdict
 ending m = record { text = done_line m.run; verdict = Finished; after = m }
 
--- the same text or end, where the next state is made of the one of the run
+-- the same text or end, with the next state made from that of the run
 abbrev pub outcome_with : (schedule.RunState → RunState) → shell.Outcome schedule.RunState Verdict
     → shell.Outcome RunState Verdict
 outcome_with next_of (shell.On text n) = shell.On text (next_of n)
 outcome_with next_of (shell.Ended text last v) = shell.Ended text last v
 
--- how a line that comes to this goes on, or ends the run: as in a schedule
+-- how the run goes on after a line that comes to this, or ends: as in a schedule
 abbrev pub outcome_in_run : RunState → Piece → text.LineOutcome → shell.Outcome RunState Verdict
 outcome_in_run m piece k = outcome_with (next m piece) (text.outcome_in_run m.run k)
 
@@ -109,7 +110,7 @@ outcome_in_run m piece k = outcome_with (next m piece) (text.outcome_in_run m.ru
 abbrev pub goes_on : RunState → Piece → text.LineOutcome → (RunState → RunText) → RunText
 goes_on m piece k others = shell.goes_on m (outcome_in_run m piece k) others
 
--- a run with places: nothing stands before the text of its first line
+-- a run with places: nothing is written before the text of its first line
 abbrev pub placed_run : ℕ → shell.Fold RunState Verdict
 placed_run reach = record {
   head = λ m. [];
@@ -125,6 +126,6 @@ text_from reach m pieces = shell.text_from (placed_run reach) m pieces
 abbrev pub text_on : ℕ → RunState → List ℕ → RunText
 text_on reach m input = shell.text_on (placed_run reach) schedule_limits m input
 
--- the same from the opening on
+-- the same from the opening state on
 unfoldable pub text_of_input : ℕ → Variant → List ℕ → RunText
 text_of_input reach variant input = text_on reach (opening variant) input

@@ -6,13 +6,13 @@ pub fn links_follow_places()
     ensures { LinksFollowPlaces }
 {}
 
-/// The worlds of a run with places are those of the run of its events, one step after another. A
-/// line that puts a node to a place has the changes of links that follow.
+/// The worlds of a run with places are those of the run of its events, one step after another. The
+/// events of a line that puts a node at a place are the changes of links that follow.
 pub fn worlds_are_of_events()
     ensures { WorldsAreOfEvents }
 {}
 
-/// So is the world of each state of it: after each of its lines, and after each event of the next.
+/// So is the world of each of its states: after each line, and after each event of the next.
 pub fn each_state_is_of_events()
     ensures { StateIsOfEvents }
 {}
@@ -22,7 +22,7 @@ pub fn runs_with_places_are_loop_free()
     ensures { RunsWithPlacesAreLoopFree }
 {}
 
-/// After no line of a run with places have a destination's valid routes a loop.
+/// After no line of a run with places do a destination's valid routes have a loop.
 pub fn lines_are_loop_free()
     ensures { LinesAreLoopFree }
 {}
@@ -32,8 +32,8 @@ pub fn states_are_loop_free()
     ensures { RunStateIsLoopFree }
 {}
 
-/// In a run with places each datum that was given or doubled was delivered, waits, is in flight, or
-/// was dropped.
+/// In a run with places as many data were given or doubled as were delivered, wait, are in flight,
+/// or were dropped.
 pub fn data_are_accounted_for()
     ensures { DataAreAccountedFor }
 {}
@@ -43,12 +43,12 @@ pub fn events_are_of_the_mesh()
     ensures { EventsAreOfMesh }
 {}
 
-/// A line that is not about a place, where it is allowed, comes to what it comes to in a schedule.
+/// A line that is not about a place, if it is allowed, comes to what it comes to in a schedule.
 pub fn other_lines_are_as_in_a_schedule()
     ensures { OtherLineIsAsInSchedule }
 {}
 
-/// A line that puts a node to a place stands as it is written.
+/// The bytes of a line that puts a node at a place are those that it is written back as.
 pub fn a_place_line_is_written_as_it_stands()
     ensures { PlaceLineIsWrittenAsItStands }
 {}

@@ -1,7 +1,7 @@
 //! Nodes with places on a grid: which places are within reach of each other, the lines that put a
-//! node to a place, the links that follow from places, and the text of a run with places. A program
-//! has of this crate the places and the reader of their lines; the rest is definitions for its
-//! contracts, with their laws.
+//! node at a place, the links that follow from places, and the text of a run with places. A program
+//! uses the places and the reader of their lines; the rest is definitions for its contracts, with
+//! their laws.
 #![tactic(auto)]
 
 mod laws;

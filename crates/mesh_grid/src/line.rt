@@ -1,4 +1,4 @@
-//! The lines that put a node to a place.
+//! The lines that put a node at a place.
 ghost use Rattle.std.specs.Prelude.{◌≡◌, ◌<◌, ◌+◌, length, IfOk, IfErr, IfSome, Some, None};
 ghost use Rattle.mesh_base.specs.Bounds.{slice_end};
 ghost use Rattle.mesh_base.specs.Numbers as numbers;
@@ -11,7 +11,7 @@ use mesh_base::{Addr, Mesh, cut, number_up_to};
 use mesh_grammar::{LineFault, Span};
 use mesh_script::{is_word, next_at, span_at};
 
-/// A node comes to a place: for the first time by `place`, from another by `move`.
+/// A node comes to a place: for the first time by `place`, from another place by `move`.
 #[derive(Clone, Copy, PartialEq, Eq)]
 pub struct Placing {
     pub first: bool,
@@ -32,7 +32,7 @@ fn coordinate(at: usize, word: &[u8]) -> Result<u32, LineFault>
     }
 }
 
-// The node of the mesh that a line puts to a place.
+// The node of the mesh that a line puts at a place.
 fn placing_in(
     mesh: &Mesh,
     first: bool,
@@ -90,15 +90,15 @@ fn placing_at(
     placing_in(mesh, first, addr, span_at(at, node), Place { x, y })
 }
 
-/// What a line says of a node's place: `place ADDR X Y` or `move ADDR X Y`. None for another line,
-/// which says what it says in a schedule; but `link` and `cut` are no commands here.
+/// What a line says of a node's place: `place ADDR X Y` or `move ADDR X Y`. None for any other
+/// line, which means what it means in a schedule; but `link` and `cut` are no commands here.
 #[tactic(auto, unfolding(crate::specs::Lines::placing_of))]
 pub fn placing_of(bytes: &[u8], mesh: &Mesh) -> Result<Option<Placing>, LineFault>
     ensures value { result ≡ lines.placing_of mesh.now bytes.now }
     ensures within { IfOk result (λ said. IfSome said (λ p. p.node < length mesh.now)) }
 {
     let (word, arguments) = cut(bytes, b' ');
-    // A slice has fewer than 2^63 bytes: no place in it overflows.
+    // A slice has fewer than 2^63 bytes: no offset in it overflows.
     let _length = bytes.len();
     match word {
         _ if is_word(word, b"place") => placing_at(mesh, true, next_at(0, word), arguments),

@@ -1,4 +1,4 @@
-//! The changes of links that follow where a node comes to a place.
+//! The changes of links that follow when a node comes to a place.
 ghost use Rattle.std.specs.Prelude.{◌≡◌, ◌<◌, ℕ, IfSome};
 ghost use Rattle.mesh_base.specs.declared.limits.TheConstants.{MOST_NODES};
 ghost use Rattle.mesh_model.specs.InMesh.{IsEvent};
@@ -26,8 +26,7 @@ fn change(due: bool, stands: bool, x: usize, y: usize) -> Option<Event<'static>>
 }
 
 impl Places {
-    /// Whether a node may come to a place: by `place` where it has none, by `move` where it has
-    /// one.
+    /// Whether a node may come to a place: by `place` if it has none, by `move` if it has one.
     pub fn may_come(&self, new: &Placing) -> bool
         requires { new.now.node < MOST_NODES }
         ensures { result ≡ links.may_come self.now new.now }
@@ -35,7 +34,7 @@ impl Places {
         self.of(new.node).is_none() == new.first
     }
 
-    /// A node comes to a place, where it may. The line has started the run either way.
+    /// Puts a node at a place, if it may come there. The line has started the run either way.
     pub fn come(&mut self, new: &Placing)
         requires { new.now.node < MOST_NODES }
         ensures { self.new ≡ links.with_placing self.old new.now }
@@ -47,7 +46,7 @@ impl Places {
     }
 
     /// The change of the link between a node that comes to a place and node `y`, if there is one.
-    /// `near` are the nodes that it is linked to.
+    /// `near` are the nodes that are linked to the node that comes.
     pub fn change_at(
         &self,
         reach: u32,

@@ -24,8 +24,7 @@ fn square(m: u32, n: u32) -> u128
 }
 
 impl Place {
-    /// Whether the two places are within reach of each other: whether they are at most `reach`
-    /// apart.
+    /// Whether the two places are within reach of each other: at most `reach` apart.
     pub fn is_within(self, reach: u32, other: Place) -> bool
         ensures { result ≡ places.is_within reach self other }
     {
@@ -35,7 +34,7 @@ impl Place {
 }
 
 /// Where the nodes of a mesh are, and whether an allowed line about places has started the run. It
-/// takes no memory but its own.
+/// allocates nothing.
 #[derive(Clone, Copy, Drop)]
 pub struct Places {
     pub at: [Option<Place>; MOST_NODES],
@@ -43,7 +42,7 @@ pub struct Places {
 }
 
 impl Places {
-    /// No node has a place.
+    /// The places before any node has one.
     pub fn new() -> Places
         ensures { result ≡ places.no_places }
     {
@@ -61,7 +60,7 @@ impl Places {
         self.at[node]
     }
 
-    /// A node comes to a place.
+    /// Puts a node at a place.
     pub fn put(&mut self, node: usize, place: Place)
         requires { node < MOST_NODES }
         ensures { self.new ≡ places.with_place self.old node place }

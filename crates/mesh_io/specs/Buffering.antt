@@ -11,7 +11,7 @@ inner_of buffer = buffer.inner
 abbrev pub gathered_in : {S : Type 0} → Buffered S → List ℕ
 gathered_in buffer = buffer.gathered
 
--- what the inner sink holds and then what is gathered, where that is told
+-- what the inner sink holds and then what is gathered, if that is known
 abbrev pub held_by : {S : Type 0} → (S → Option (List ℕ)) → Buffered S → Option (List ℕ)
 held_by held buffer = append_known (held (inner_of buffer)) (gathered_in buffer)
 

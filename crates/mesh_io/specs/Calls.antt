@@ -1,4 +1,4 @@
--- Calls that are counted from 1, of which some fail by plan.
+-- Calls that are counted from 1, some of which fail by plan.
 use Rattle.std.specs.Prelude.{ℕ, ◌+◌, ◌-◌, ◌^◌, min, Bool, nat_eq, List}
 use Rattle.std.specs.List.{list_any}
 
@@ -12,7 +12,7 @@ pub record CallsSeen : Type 0 where
 abbrev pub no_calls : List ℕ → CallsSeen
 no_calls planned = record { planned = planned; made = 0; failed = 0 }
 
--- a count goes up by one, and stays at the last value of its type
+-- the next value of a count, which stays at the last value of its type
 abbrev pub one_more : ℕ → ℕ
 one_more count = min (count + 1) (2 ^ 64 - 1)
 
@@ -20,10 +20,10 @@ one_more count = min (count + 1) (2 ^ 64 - 1)
 abbrev pub fails_next : CallsSeen → Bool
 fails_next calls = list_any (λ number. nat_eq number (calls.made + 1)) calls.planned
 
--- one call more was made
+-- one more call was made
 abbrev pub with_call : CallsSeen → CallsSeen
 with_call calls = record calls { made = one_more calls.made }
 
--- one call more has failed
+-- one more call has failed
 abbrev pub with_fault : CallsSeen → CallsSeen
 with_fault calls = record calls { failed = one_more calls.failed }

@@ -1,5 +1,5 @@
 -- Part of what the headline says.
--- What is seen of a source that is cut into lines, and what it answers.
+-- What contracts see of a source that is cut into lines, and what it answers.
 use Rattle.std.specs.Prelude.{ℕ, ◌+◌, ◌-◌, ◌≡◌, ◌≤◌, ◌<◌, ◌⊎◌, Bool, true, false, if◌then◌else◌, List, [], length, take, drop, Option, Some, None, IfSome, Result, Ok, Err, IsErrOf, ⊤}
 use Rattle.std.specs.Borrow.{Bor, MutBor}
 use Rattle.std.specs.Io.KnownBytes.{prepend_known, IsAtEnd}
@@ -15,7 +15,7 @@ use Rattle.mesh_io.specs.declared.decision.Decision.TheVariants as decision
 use Rattle.mesh_io.specs.declared.line_error.LineError.{LineError}
 use Rattle.mesh_io.specs.declared.line_error.LineError.TheVariants as error
 
--- a reader with so many bytes of room can hold the longest line and one read
+-- a reader with this many bytes of room can hold the longest line and one read
 abbrev pub HasRoom : Limits → ℕ → Type 0
 HasRoom most room = most.line + ASKED ≤ room
 
@@ -27,7 +27,7 @@ source_in cutter = cutter.source
 abbrev pub limits_in : {S : Type 0} {room : ℕ} {G : Ghosts S} → Cutter S room G → Limits
 limits_in cutter = cutter.most
 
--- how many bytes were given, each LF among them
+-- how many bytes were given, each LF included
 abbrev pub given_in : {S : Type 0} {room : ℕ} {G : Ghosts S} → Cutter S room G → ℕ
 given_in cutter = cutter.given
 
@@ -43,7 +43,7 @@ line_in cutter = take cutter.len cutter.buffer
 abbrev pub pending_in : {S : Type 0} {room : ℕ} {G : Ghosts S} → Cutter S room G → List ℕ
 pending_in cutter = drop cutter.size cutter.buffer
 
--- the bytes to come, where the source tells them
+-- the bytes to come, if they are known
 abbrev pub ahead_in : {S : Type 0} {room : ℕ} {G : Ghosts S} → (S → Option (List ℕ))
     → Cutter S room G → Option (List ℕ)
 ahead_in left cutter = prepend_known (pending_in cutter) (left (cutter.source).now)
@@ -56,7 +56,7 @@ faults_in faults cutter = faults (cutter.source).now
 abbrev pub decides_in : {S : Type 0} {room : ℕ} {G : Ghosts S} → Cutter S room G → Bool
 decides_in cutter = decides cutter.most cutter.given cutter.ended (pending_in cutter)
 
--- the most reads that can still be asked for the next line
+-- an upper bound on the reads that the next line still needs
 abbrev pub reads_to_come : {S : Type 0} {room : ℕ} {G : Ghosts S} → Cutter S room G → ℕ
 reads_to_come cutter =
     if cutter.ended then 0 else 1 + (cutter.most.line + 1 - length (pending_in cutter))
@@ -85,12 +85,12 @@ abbrev pub HasNoLf : List ℕ → Type 0
 HasNoLf bytes = (first_line bytes).ends ≡ false
 
 -- a line of this length was counted with its LF; only the last of an input, whose source has ended,
--- may have none
+-- may lack one
 abbrev pub IsCounted : (len before after : ℕ) → Bool → Type 0
 IsCounted len before after ended =
     (after ≡ before + len + 1) ⊎ ((after ≡ before + len) × (ended ≡ true))
 
--- a line found is the first of the bytes to come
+-- the line found is the first of the bytes to come
 pub record FindsLine (most : Limits) (given : ℕ) (bytes line : List ℕ) (after : ℕ)
     (left : Option (List ℕ)) : Type 0 where
   pub first : FirstLine
@@ -99,8 +99,8 @@ pub record FindsLine (most : Limits) (given : ℕ) (bytes line : List ℕ) (afte
   pub after_is : after ≡ given + line_size first
   pub left_is : left ≡ Some first.rest
 
--- what is answered where the bytes to come are known, the line found, how many are given, and which
--- are then to come
+-- the answer of a call before which these bytes were to come: the line found, how many bytes are
+-- given after it, and which are then to come
 abbrev pub Tells : Limits → ℕ → List ℕ → Result Bool LineError → List ℕ → ℕ → Option (List ℕ)
     → Type 0
 Tells most given bytes (Ok true) line after left = FindsLine most given bytes line after left
@@ -123,8 +123,8 @@ shown_in (Ok (Some line)) = line.now
 shown_in (Ok None) = []
 shown_in (Err error) = []
 
--- what a call that lends the next line has answered, and what it has done once the line isn't lent
--- any more: each fact is one of `advance`
+-- what a call that lends the next line has answered, and what it has done once the line is no
+-- longer lent: each fact is one of `advance`
 pub record NextTells {S : Type 0} {room : ℕ} {G : Ghosts S} (most : Limits)
     (left : S → Option (List ℕ)) (faults : S → ℕ) (old : Cutter S room G)
     (result : Result (Option (Bor (List ℕ))) LineError) (now : Cutter S room G) : Type 0 where

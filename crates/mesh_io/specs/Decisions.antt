@@ -5,7 +5,7 @@ use Rattle.mesh_io.specs.declared.limits.Limits.{Limits}
 use Rattle.mesh_io.specs.declared.decision.Decision.{Decision}
 use Rattle.mesh_io.specs.declared.decision.Decision.TheVariants as decision
 
--- they do where none come after them, where they have an LF, and where they go past a limit
+-- they do if none come after them, if they have an LF, or if they go past a limit
 abbrev pub decides : Limits → ℕ → Bool → List ℕ → Bool
 decides most given ended bytes =
     ended || (first_line bytes).ends || nat_lt most.line (length bytes)
@@ -17,11 +17,11 @@ decision_by (Line first) = decision.Line (length first.line) (line_size first)
 decision_by TooLong = decision.TooLong
 decision_by TooMuch = decision.TooMuch
 
--- what the bytes at hand decide, after so many that were given
+-- what the bytes at hand decide, after this many that were given
 unfoldable pub decision_of : Limits → ℕ → Bool → List ℕ → Decision
 decision_of most given ended bytes =
     if decides most given ended bytes then decision_by (next_of most given bytes) else decision.Open
 
--- which limit a line that is too long goes past first, where the input may have so many bytes more
+-- which limit a line that is too long goes past first, if the input may have `room` more bytes
 abbrev pub decision_past : Limits → ℕ → Decision
 decision_past most room = if nat_lt most.line room then decision.TooLong else decision.TooMuch

@@ -1,4 +1,5 @@
--- A source and a sink in memory, which give and take few bytes a call and fail by plan.
+-- A source and a sink in memory, which give and take a limited number of bytes per call and fail by
+-- plan.
 use Rattle.std.specs.Prelude.{ℕ, ◌-◌, min, Bool, nat_eq, ◌||◌, if◌then◌else◌, List, ◌++◌, length, take, drop, Result, Ok, Err}
 use Rattle.mesh_io.specs.Calls.{CallsSeen, fails_next, with_call, with_fault}
 use Rattle.mesh_io.specs.declared.source.Failed.{Failed}
@@ -9,7 +10,7 @@ pub record Giving : Type 0 where
   pub most : ℕ
   pub calls : CallsSeen
 
--- how many bytes a call gives that doesn't fail, to a buffer of this length
+-- how many bytes a call that doesn't fail gives to a buffer of this length
 abbrev pub given_count : Giving → ℕ → ℕ
 given_count source room = min (length source.left) (min room source.most)
 
@@ -28,7 +29,7 @@ after_take source room =
       calls = with_call source.calls;
     }
 
--- the buffer after a call: the bytes given, and then what stood there
+-- the buffer after a call: the bytes given, and after them what the buffer had there before
 abbrev pub filled_buffer : Giving → List ℕ → List ℕ
 filled_buffer source buffer =
     if fails_next source.calls then buffer
@@ -42,11 +43,11 @@ pub record Taking : Type 0 where
   pub most : ℕ
   pub calls : CallsSeen
 
--- how many bytes of a piece of this length a call takes that doesn't fail
+-- how many bytes of a piece of this length a call that doesn't fail takes
 abbrev pub taken_count : Taking → ℕ → ℕ
 taken_count sink count = min count (min sink.most (sink.room - length sink.held))
 
--- the next call fails: by plan, or since the sink is full
+-- the next call fails: by plan, or because the sink is full
 abbrev pub refuses : Taking → Bool
 refuses sink = fails_next sink.calls || nat_eq (length sink.held) sink.room
 

@@ -28,7 +28,7 @@ first_line (b ∷ bs) =
     if b == 10 then record { line = []; ends = true; rest = bs }
     else with_byte b (first_line bs)
 
--- how many bytes a line is, its LF among them
+-- how many bytes a line takes, its LF included
 abbrev pub line_size : FirstLine → ℕ
 line_size first = length first.line + (if first.ends then 1 else 0)
 
@@ -40,15 +40,15 @@ pub data NextLine : Type 0 where
   TooLong : NextLine
   TooMuch : NextLine
 
--- the first byte that goes past a limit decides: the input's limit where it goes past both, and a
--- line's LF counts for the input alone
+-- the first byte that goes past a limit decides: the input's limit if it goes past both; a line's
+-- LF counts for the input's limit alone
 abbrev pub next_by : Limits → ℕ → FirstLine → NextLine
 next_by most given first =
     if nat_lt most.line (length first.line)
     then (if nat_le (given + most.line + 1) most.input then TooLong else TooMuch)
     else (if nat_le (given + line_size first) most.input then Line first else TooMuch)
 
--- what comes next of these bytes, after so many that were given
+-- what comes next of these bytes, after this many that were given
 unfoldable pub next_of : Limits → ℕ → List ℕ → NextLine
 next_of most given [] = End
 next_of most given (b ∷ bs) = next_by most given (first_line (b ∷ bs))

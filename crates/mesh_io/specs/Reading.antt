@@ -1,4 +1,4 @@
--- What is seen of a reader of lines.
+-- What contracts see of a reader of lines.
 use Rattle.std.specs.Prelude.{ℕ, Bool, List, Option}
 use Rattle.std.specs.Borrow.{MutBor}
 use Rattle.mesh_io.specs.NextLines.{schedule_limits}
@@ -22,7 +22,7 @@ pending_of lines = pending_in lines.cutter
 abbrev pub line_of : {S : Type 0} {G : Ghosts S} → Lines S G → List ℕ
 line_of lines = line_in lines.cutter
 
--- how many bytes were given, each LF among them
+-- how many bytes were given, each LF included
 abbrev pub given_of : {S : Type 0} {G : Ghosts S} → Lines S G → ℕ
 given_of lines = (lines.cutter).given
 
@@ -38,7 +38,7 @@ is_decided_at lines = decides schedule_limits (given_of lines) (has_ended lines)
 abbrev pub refusal_of : {S : Type 0} {G : Ghosts S} → Lines S G → Option LineError
 refusal_of lines = refusal_in lines.cutter
 
--- the bytes to come, where the source tells them
+-- the bytes to come, if they are known
 abbrev pub ahead_of : {S : Type 0} {G : Ghosts S} → (S → Option (List ℕ)) → Lines S G
     → Option (List ℕ)
 ahead_of left lines = ahead_in left lines.cutter
@@ -47,6 +47,6 @@ ahead_of left lines = ahead_in left lines.cutter
 abbrev pub faults_of : {S : Type 0} {G : Ghosts S} → (S → ℕ) → Lines S G → ℕ
 faults_of faults lines = faults_in faults lines.cutter
 
--- what cuts the source
+-- the cutter of the source
 abbrev pub cutter_of : {S : Type 0} {G : Ghosts S} → Lines S G → Cutter S SCHEDULE_CAPACITY G
 cutter_of lines = lines.cutter

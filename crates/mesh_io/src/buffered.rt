@@ -12,8 +12,8 @@ use crate::sink::Sink;
 use crate::source::Failed;
 use crate::through::{Loan, Through};
 
-/// A sink that gathers the pieces put, and hands them on to another sink, many at a time. All its
-/// memory is taken before it is made. What isn't flushed when it is dropped is lost.
+/// A sink that gathers the pieces put into it, and hands them on to another sink, many at a time.
+/// All its memory is taken before it is made. What isn't flushed before it is dropped is lost.
 #[derive(Drop)]
 pub struct Buffered<S> {
     inner: S,
@@ -31,8 +31,8 @@ impl<S: Sink> Buffered<S> {
         Buffered { inner, gathered }
     }
 
-    /// Hands on all that is gathered. Where the inner sink fails, what it has taken leaves the
-    /// buffer and the rest stays gathered.
+    /// Hands on all that is gathered. If the inner sink fails, what it has taken is removed from
+    /// the buffer, and the rest stays gathered.
     #[inline(never)]
     pub fn flush(&mut self) -> Result<(), PutFault>
         ensures all { OnOk result (gathered_in self.new ≡ []) }

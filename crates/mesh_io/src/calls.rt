@@ -1,4 +1,4 @@
-//! Calls that are counted, of which some fail by plan.
+//! Calls that are counted, some of which fail by plan.
 ghost use Rattle.std.specs.Prelude.{◌≡◌, ◌≤◌, ◌+◌, IfOk, nat_eq};
 ghost use Rattle.std.specs.List.{list_any};
 ghost use Rattle.mesh_io.specs.Calls.{no_calls, fails_next, with_call, with_fault};
@@ -23,7 +23,7 @@ impl Model for Calls {
     ghost view = { λ c. record { planned = c.planned.items; made = c.made; failed = c.failed } };
 }
 
-// Whether the call after so many is to fail. No call past the last number of the type is.
+// Whether the call after `made` calls is to fail. No call past number 2^64 - 1 is.
 fn is_planned(planned: &[u64], made: u64) -> bool
     ensures { result ≡ list_any (λ number. nat_eq number (made + 1)) planned.now }
 {
@@ -34,7 +34,7 @@ fn is_planned(planned: &[u64], made: u64) -> bool
 }
 
 impl Calls {
-    /// None yet, of which those with these numbers are to fail.
+    /// No calls made yet; those with these numbers, counted from 1, are to fail.
     pub fn new(alloc: Global, planned: &[u64]) -> Result<Calls, NoMemory>
         ensures { IfOk result (λ calls. calls ≡ no_calls planned.now) }
     {
@@ -45,7 +45,7 @@ impl Calls {
         })
     }
 
-    /// Counts a call, and says whether it is to fail.
+    /// Counts a call, and returns whether it is to fail.
     pub fn next(&mut self) -> bool
         ensures fails { result ≡ fails_next self.old }
         ensures counted { self.new ≡ with_call self.old }

@@ -19,21 +19,22 @@ pub const SCHEDULE_CAPACITY: usize = LONGEST_LINE + ASKED;
 /// Room for the longest line of a printed text and one read, in bytes.
 pub const TEXT_CAPACITY: usize = LONGEST_TEXT_LINE + ASKED;
 
-/// Cuts what a source gives into lines within these limits. The line that was found last stands at
-/// the buffer's prefix, with its LF, and behind it the bytes that were read and not yet given. The
-/// buffer has room for the longest line, its LF not among it, and one read.
+/// Cuts what a source gives into lines within these limits. The line that was found last is at the
+/// start of the buffer, with its LF, and after it are the bytes that were read and not yet given.
+/// The buffer has room for the longest line, without its LF, and one read.
 #[derive(Drop)]
 pub struct Cutter<'s, S: Source, const CAPACITY: usize> {
     source: &'s mut S,
     buffer: ReadBuffer<CAPACITY>,
     most: Limits,
-    // Of the line that was found last: its bytes, and with its LF.
+    // The length of the line that was found last: without its LF, and with it.
     len: usize,
     size: usize,
-    // The bytes of all lines found, each LF among them.
+    // How many bytes the lines found so far have, each LF included.
     given: usize,
     ended: bool,
-    // What the bytes behind the line decide: made once, when they come or the line is given.
+    // What the bytes after the line decide. It is made once, when they are read or the line is
+    // given.
     decision: Decision,
     ghost whole: { size ≤ length buffer },
     ghost within: { len ≤ size },
@@ -46,7 +47,7 @@ pub struct Cutter<'s, S: Source, const CAPACITY: usize> {
 impl<'s, S: Source, const CAPACITY: usize> Cutter<'s, S, CAPACITY> {
     ghost use Rattle.mesh_io.specs.Cutting.{HasRoom, source_in, limits_in, given_in, has_ended_in, line_in, pending_in, ahead_in, faults_in, decides_in, reads_to_come, Tells, Refuses, IsCounted, HasNoLf, refusal_in};
 
-    /// At the prefix of the source.
+    /// A cutter of what is still to come from the source.
     pub fn new(source: &'s mut S, most: Limits) -> Cutter<'s, S, CAPACITY>
         requires { HasRoom most CAPACITY }
         ensures same { (source_in result).ghost_name ≡ source.entry.ghost_name }
@@ -68,7 +69,7 @@ impl<'s, S: Source, const CAPACITY: usize> Cutter<'s, S, CAPACITY> {
         }
     }
 
-    /// The source. What was read of it and not given is lost.
+    /// The source. What was read from it and not given is lost.
     pub fn give_back(self) -> &'s mut S
         ensures same { result.ghost_name ≡ (source_in self.entry).ghost_name }
         ensures source { result.now ≡ (source_in self.entry).now }
@@ -86,21 +87,21 @@ impl<'s, S: Source, const CAPACITY: usize> Cutter<'s, S, CAPACITY> {
         source
     }
 
-    /// The line that was found last.
+    /// The line that was found last, without its LF.
     pub fn line(&self) -> &[u8]
         ensures { result.now ≡ line_in self.now }
     {
         &self.buffer.bytes()[..self.len]
     }
 
-    /// The next answer needs no read.
+    /// Whether the next answer needs no read.
     pub fn is_decided(&self) -> bool
         ensures { result ≡ decides_in self.now }
     {
         !matches!(self.decision, Decision::Open)
     }
 
-    // Puts bytes behind those that are pending. Few lines need it.
+    // Reads more bytes after those that are pending. Few lines need it.
     #[cold]
     fn read(&mut self) -> Result<(), Failed>
         requires { decides_in self.old ≡ false }
@@ -129,7 +130,7 @@ impl<'s, S: Source, const CAPACITY: usize> Cutter<'s, S, CAPACITY> {
         Ok(())
     }
 
-    // Gives the prefix of what is pending as a line.
+    // Gives the first `len` pending bytes as a line, which takes `size` of them.
     fn give(&mut self, len: usize, size: usize)
         requires within { len ≤ size }
         requires whole { size ≤ length (pending_in self.old) }
@@ -155,7 +156,7 @@ impl<'s, S: Source, const CAPACITY: usize> Cutter<'s, S, CAPACITY> {
         );
     }
 
-    /// Finds the next line, if there is one.
+    /// Finds the next line, if there is one: false only if the input has ended.
     pub fn advance(&mut self) -> Result<bool, LineError>
         ensures same { (source_in self.new).ghost_name ≡ (source_in self.old).ghost_name }
         ensures most { limits_in self.new ≡ limits_in self.old }
@@ -203,9 +204,9 @@ impl<'s, S: Source, const CAPACITY: usize> Cutter<'s, S, CAPACITY> {
     ghost use Rattle.mesh_io.specs.contracts.cutter.Cutter.{the_row};
     ghost use Rattle.mesh_io.specs.Cutting.{limits_in, NextTells};
 
-    /// The next line without its LF, in one call: None is the end of the input. Where a caller
-    /// states what it makes of a line, `advance` and `line` serve better: the line lent here is the
-    /// reader's own, so nothing is known of the reader until it is given back.
+    /// The next line without its LF, in one call: None at the end of the input. A caller whose
+    /// contract says what it does with a line is better served by `advance` and `line`: the line
+    /// lent here is the reader's own, so nothing is known of the reader until it is given back.
     pub fn next(&mut self) -> Result<Option<&[u8]>, LineError>
         ensures* after { sem 𝓛 (Rests
             (the_row (record { mir = named 0; lft = [] }) S.row CAPACITY.row S.Source) self.entry

@@ -1,4 +1,4 @@
-//! What the bytes at hand decide of the next line.
+//! What the bytes at hand decide about the next line.
 ghost use Rattle.std.specs.Prelude.{◌≡◌, ◌≤◌, IfSome, Some};
 ghost use Rattle.memchr.specs.Find.{IsFirstByte, is_byte};
 ghost use Rattle.mesh_io.specs.Decisions.{decision_of, decision_past};
@@ -7,22 +7,22 @@ use crate::limits::Limits;
 use memchr::memchr;
 use std::simd::prelude::*;
 
-/// What the bytes at hand decide of the next line, whatever comes after them.
+/// What the bytes at hand decide about the next line, whatever comes after them.
 #[derive(Clone, Copy)]
 pub enum Decision {
     /// Nothing yet: it needs a read.
     Open,
     /// The input has ended.
     End,
-    /// A line of `len` bytes, which with its LF are `size`.
+    /// A line of `len` bytes; with its LF, if it has one, it takes `size` bytes.
     Line { len: usize, size: usize },
-    /// The line has a byte too many.
+    /// The line is too long.
     TooLong,
-    /// The input has a byte too many.
+    /// The input is too long.
     TooMuch,
 }
 
-// Which limit a line that is too long goes past first, where the input may have so many bytes more.
+// Which limit a line that is too long goes past first, if the input may have `room` more bytes.
 fn past(most: Limits, room: usize) -> Decision
     ensures { result ≡ decision_past most room }
 {
@@ -33,8 +33,8 @@ fn past(most: Limits, room: usize) -> Decision
     }
 }
 
-// The position of the first LF, where it is one of the first 16 bytes: it takes one comparison, and
-// most lines of a schedule end there.
+// The position of the first LF, if it is among the first 16 of at least 16 bytes: this takes one
+// comparison, and most lines of a schedule end there.
 #[inline(always)]
 fn near_end(bytes: &[u8]) -> Option<usize>
     ensures { IfSome result (λ n. IsFirstByte (is_byte 10) bytes.now (Some n)) }
@@ -72,7 +72,7 @@ fn decision_at(most: Limits, given: usize, ended: bool, bytes: &[u8]) -> Decisio
     }
 }
 
-// The same, in place.
+// `decision_at`, with the decision left in place.
 #[inline(never)]
 fn decide_far(most: Limits, given: usize, ended: bool, bytes: &[u8], decision: &mut Decision)
     requires { given ≤ most.input }
@@ -81,8 +81,8 @@ fn decide_far(most: Limits, given: usize, ended: bool, bytes: &[u8], decision: &
     *decision = decision_at(most, given, ended, bytes);
 }
 
-/// Leaves in `decision` what these bytes decide after so many that were given, where `ended` says
-/// that none come after them.
+/// Leaves in `decision` what these bytes decide, after `given` bytes that were given before them.
+/// `ended` says that none come after them.
 #[inline(always)]
 pub fn decide(most: Limits, given: usize, ended: bool, bytes: &[u8], decision: &mut Decision)
     requires { given ≤ most.input }

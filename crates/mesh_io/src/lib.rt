@@ -1,7 +1,7 @@
 //! Where the bytes of a run come from and where its text goes: sources and sinks with a count of
 //! their faults, in memory and over std's readers and writers, the lines of a source, and a buffer
-//! before a sink. A reader or writer that fails is told from one that ends, and each refusal by one
-//! has a fault as its cause.
+//! before a sink. A reader that fails is told from one that ends, and each refusal by a source or a
+//! sink has a fault as its cause.
 #![tactic(auto)]
 
 mod buffered;

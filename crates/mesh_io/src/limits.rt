@@ -4,8 +4,8 @@ ghost use Rattle.mesh_io.specs.NextLines.{schedule_limits, text_limits};
 
 use mesh_base::{LONGEST_INPUT, LONGEST_LINE};
 
-/// The most bytes of a line of a printed text, without its LF. The longest that `mesh run` writes,
-/// a route error cast to 200 nodes, has some 6,430.
+/// The most bytes of a line of a printed text, without its LF. The longest line that `mesh run`
+/// writes, a route error cast to 200 nodes, has at most 6,420.
 pub const LONGEST_TEXT_LINE: usize = 8192;
 
 /// The most bytes of a printed text.
@@ -19,7 +19,7 @@ pub struct Limits {
 }
 
 impl Limits {
-    /// Those of a schedule.
+    /// The limits of a schedule.
     pub fn of_schedule() -> Limits
         ensures { result ≡ schedule_limits }
     {
@@ -29,7 +29,7 @@ impl Limits {
         }
     }
 
-    /// Those of a printed text.
+    /// The limits of a printed text.
     pub fn of_text() -> Limits
         ensures { result ≡ text_limits }
     {

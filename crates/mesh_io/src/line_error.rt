@@ -7,7 +7,7 @@ pub enum LineError {
     /// The source failed.
     #[error("a read failed")]
     ReadFault,
-    /// The next byte to join the line, its LF included, is one more than an input may have.
+    /// The next byte of the line, or the LF that ends it, is one more than an input may have.
     #[error("the input is too long")]
     TooMuch,
     /// The line has one byte more than a line may have.

@@ -11,12 +11,12 @@ use crate::line_error::LineError;
 use crate::source::Source;
 
 /// Reads a source line by line: a line has at most `LONGEST_LINE` bytes, and the input at most
-/// `LONGEST_INPUT`. What goes past a limit first, in the order of the bytes, is refused, and where
-/// one byte goes past both it is the input's that counts.
+/// `LONGEST_INPUT`. The first byte that goes past a limit decides which refusal is reported; if it
+/// goes past both, the input's limit counts.
 ///
-/// The source is asked for 4096 bytes at a time, and only where the bytes that it gave don't decide
-/// what comes next. No memory is taken: a line is lent from the reader, which has about 4800 bytes
-/// in itself and is best made where it stays.
+/// The source is asked for 4096 bytes at a time, and only if the bytes that it gave don't decide
+/// what comes next. No memory is taken: a line is lent from the reader, which is itself some 4800
+/// bytes large and is best made where it stays.
 #[derive(Drop)]
 pub struct Lines<'s, S: Source> {
     cutter: Cutter<'s, S, SCHEDULE_CAPACITY>,
@@ -27,7 +27,7 @@ impl<'s, S: Source> Lines<'s, S> {
     ghost use Rattle.mesh_io.specs.Reading.{source_of, pending_of, line_of, given_of, has_ended, is_decided_at, refusal_of, ahead_of, faults_of};
     ghost use Rattle.mesh_io.specs.Cutting.{Tells, Refuses, IsCounted, HasNoLf};
 
-    /// A reader at the prefix of the source.
+    /// A reader of what is still to come from the source.
     pub fn new(source: &'s mut S) -> Lines<'s, S>
         ensures same { (source_of result).ghost_name ≡ source.entry.ghost_name }
         ensures source { (source_of result).now ≡ source.old }
@@ -40,7 +40,7 @@ impl<'s, S: Source> Lines<'s, S> {
         }
     }
 
-    /// The source. What was read of it and not given is lost.
+    /// The source. What was read from it and not given is lost.
     pub fn give_back(self) -> &'s mut S
         ensures same { result.ghost_name ≡ (source_of self.entry).ghost_name }
         ensures source { result.now ≡ (source_of self.entry).now }
@@ -49,7 +49,7 @@ impl<'s, S: Source> Lines<'s, S> {
         cutter.give_back()
     }
 
-    /// The next answer needs no read.
+    /// Whether the next answer needs no read.
     pub fn is_decided(&self) -> bool
         ensures { result ≡ is_decided_at self.now }
     {
@@ -63,9 +63,9 @@ impl<'s, S: Source> Lines<'s, S> {
         self.cutter.line()
     }
 
-    /// Finds the next line: false only where the input has ended. After a limit's refusal each
-    /// later call answers the same; after a ReadFault the next call goes on, and no line that was
-    /// read whole was held back. Where no read is needed, none fails.
+    /// Finds the next line: false only if the input has ended. After a refusal by a limit each
+    /// later call returns the same error; after a `ReadFault` the next call goes on, and no line
+    /// that was read whole was held back. If no read is needed, none fails.
     pub fn advance(&mut self) -> Result<bool, LineError>
         ensures same { (source_of self.new).ghost_name ≡ (source_of self.old).ghost_name }
         ensures told { IfSome (ahead_of S.left self.old) (λ bytes.
@@ -99,9 +99,9 @@ impl<'s, S: Source> Lines<'s, S> {
     ghost use Rattle.mesh_io.specs.Reading.{cutter_of};
     ghost use Rattle.mesh_io.specs.Cutting.{NextTells};
 
-    /// The next line without its LF, in one call: None is the end of the input. Where a caller
-    /// states what it makes of a line, `advance` and `line` serve better: the line lent here is the
-    /// reader's own, so nothing is known of the reader until it is given back.
+    /// The next line without its LF, in one call: None at the end of the input. A caller whose
+    /// contract says what it does with a line is better served by `advance` and `line`: the line
+    /// lent here is the reader's own, so nothing is known of the reader until it is given back.
     pub fn next(&mut self) -> Result<Option<&[u8]>, LineError>
         ensures* after { sem 𝓛 (Rests (the_row (record { mir = named 0; lft = [] }) S.row S.Source)
             self.entry (λ now. NextTells schedule_limits S.left S.faults

@@ -1,4 +1,4 @@
-//! A sink in memory, which takes few bytes a call and fails at given calls.
+//! A sink in memory, which takes a limited number of bytes per call and fails at given calls.
 ghost use Rattle.std.specs.Prelude.{◌≡◌, ◌≤◌, ◌<◌, length, ◌+◌, ◌-◌, ◌++◌, [], Some, IfOk, min, vec_capacity};
 ghost use Rattle.std.specs.Io.KnownBytes.{WriteAppends};
 ghost use Rattle.mesh_io.specs.Cause.{HasCause};
@@ -12,7 +12,7 @@ use mesh_base::NoMemory;
 use std::alloc::Global;
 use std::marker::Model;
 
-/// Holds what is put, up to its room. All its memory is taken when it is made.
+/// Holds what is put into it, as far as it has room. All its memory is taken when it is made.
 #[derive(Drop)]
 pub struct MemSink {
     bytes: Vec<u8>,
@@ -39,8 +39,8 @@ impl Model for MemSink {
 }
 
 impl MemSink {
-    /// A sink with room for `room` bytes, of which a call takes at most `most`. It fails exactly
-    /// at the calls whose numbers, counted from 1, are in `fails`, and where it is full.
+    /// A sink with room for `room` bytes, of which a call takes at most `most`. A call fails
+    /// exactly if its number, counted from 1, is in `fails`, or the sink is full.
     pub fn new(alloc: Global, room: usize, most: usize, fails: &[u64]) -> Result<MemSink, NoMemory>
         requires { 0 < most }
         ensures { IfOk result (λ sink. sink ≡ record {

@@ -1,4 +1,4 @@
-//! A source in memory, which gives few bytes a call and fails at given calls.
+//! A source in memory, which gives a limited number of bytes per call and fails at given calls.
 ghost use Rattle.std.specs.Prelude.{◌≡◌, ◌≤◌, ◌<◌, length, ◌+◌, ◌-◌, ◌++◌, take, Some, drop, min, IfOk};
 ghost use Rattle.std.specs.Io.{ReadsAtMost};
 ghost use Rattle.std.specs.Io.KnownBytes.{ReadConsumes};
@@ -12,7 +12,7 @@ use mesh_base::{Bytes, NoMemory};
 use std::alloc::Global;
 use std::marker::Model;
 
-/// Copies the prefix of the bytes to the buffer's prefix, at most `most` of them, and says how
+/// Copies the first bytes, at most `most` of them, to the start of the buffer, and returns how
 /// many.
 pub fn give(bytes: &[u8], most: usize, buf: &mut [u8]) -> usize
     ensures count { result ≡ min (length bytes.now) (min (length buf.old) most) }
@@ -23,7 +23,7 @@ pub fn give(bytes: &[u8], most: usize, buf: &mut [u8]) -> usize
     n
 }
 
-/// Gives its bytes, at most `most` of them at each call, and fails at the calls that are planned.
+/// Gives its bytes, at most `most` of them per call, and fails at the calls that are planned.
 #[derive(Drop)]
 pub struct MemSource {
     bytes: Bytes,
@@ -44,8 +44,8 @@ impl Model for MemSource {
 }
 
 impl MemSource {
-    /// A source of these bytes, which fails exactly at the calls whose numbers, counted from 1,
-    /// are in `fails`.
+    /// A source of these bytes, at most `most` of them per call. It fails exactly at the calls
+    /// whose numbers, counted from 1, are in `fails`.
     pub fn new(
         alloc: Global,
         bytes: Bytes,

@@ -12,7 +12,7 @@ use thiserror::Error;
 #[error("a write failed")]
 pub struct PutFault;
 
-/// Writes the piece up to its end or the first fault, and says how many bytes were written.
+/// Writes the piece up to its end or the first fault, and returns how many bytes were written.
 pub fn put_front<O: Sink>(out: &mut O, piece: &[u8]) -> usize
     ensures within { result ≤ length piece.now }
     ensures text { Appends (O.held out.old) (O.held out.new) (take result piece.now) }
@@ -31,7 +31,7 @@ pub fn put_front<O: Sink>(out: &mut O, piece: &[u8]) -> usize
     written
 }
 
-// Writes the whole piece, or a prefix of it, by as many calls as that takes.
+// Writes the whole piece, or a prefix of it if the sink fails, in as many calls as that takes.
 #[inline(never)]
 fn put_in_parts<O: Sink>(out: &mut O, piece: &[u8]) -> Result<(), PutFault>
     ensures text { Puts (O.held out.old) (O.held out.new) piece.now result }
@@ -43,8 +43,8 @@ fn put_in_parts<O: Sink>(out: &mut O, piece: &[u8]) -> Result<(), PutFault>
     Ok(())
 }
 
-/// Writes the whole piece, or a prefix of it where the sink fails. An empty piece is written by no
-/// call, and others mostly by one.
+/// Writes the whole piece, or a prefix of it if the sink fails. An empty piece takes no call, and
+/// most others take one.
 pub fn put_all<O: Sink>(out: &mut O, piece: &[u8]) -> Result<(), PutFault>
     ensures text { Puts (O.held out.old) (O.held out.new) piece.now result }
     ensures cause { HasCause (O.faults out.old) (O.faults out.new) result }

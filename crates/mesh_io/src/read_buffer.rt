@@ -27,7 +27,7 @@ impl<const CAPACITY: usize> Model for ReadBuffer<CAPACITY> {
     ghost invariant = { λ b. (b.at ≤ b.end) × (b.end ≤ CAPACITY) };
 }
 
-// Reads behind the first n bytes of the store.
+// Reads into the store, after its first n bytes.
 fn read_behind<S: Source>(source: &mut S, store: &mut [u8], n: usize) -> Result<usize, Failed>
     requires { n + ASKED ≤ length store.old }
     ensures size { length store.new ≡ length store.old }
@@ -62,7 +62,7 @@ impl<const CAPACITY: usize> ReadBuffer<CAPACITY> {
         &store[self.at..self.end]
     }
 
-    /// The first n bytes go.
+    /// Removes the first n bytes.
     pub fn drop_front(&mut self, n: usize)
         requires { n ≤ length self.old }
         ensures { self.new ≡ drop n self.old }
@@ -70,7 +70,8 @@ impl<const CAPACITY: usize> ReadBuffer<CAPACITY> {
         self.at += n;
     }
 
-    /// Adds the bytes of one read of the source, and says how many they are: none only at its end.
+    /// Adds the bytes of one read of the source, and returns how many there are: none only at its
+    /// end.
     pub fn read<S: Source>(&mut self, source: &mut S) -> Result<usize, Failed>
         requires { length self.old + ASKED ≤ CAPACITY }
         ensures more { IfOk result (λ n. (fresh : List ℕ) × (self.new ≡ self.old ++ fresh)

@@ -9,7 +9,7 @@ use std::marker::Model;
 /// How many bytes a buffer has room for.
 const SIZE: usize = 65536;
 
-/// Memory for 65536 bytes, seen as the bytes that are gathered in it.
+/// Memory for 65536 bytes. In contracts it is the bytes that are gathered in it.
 #[derive(Drop)]
 pub struct ReservedBuffer {
     bytes: Vec<u8>,
@@ -52,7 +52,7 @@ impl ReservedBuffer {
         self.bytes.len() == SIZE
     }
 
-    /// Gathers as much of the piece as there is room for, and says how much.
+    /// Gathers as much of the piece as there is room for, and returns how many bytes.
     pub(crate) fn gather(&mut self, piece: &[u8]) -> usize
         ensures count { result ≡ min (length piece.now) (buffer_size - length self.old) }
         ensures gathered { self.new ≡ self.old ++ take result piece.now }
@@ -64,7 +64,7 @@ impl ReservedBuffer {
         }
     }
 
-    /// The first n bytes go.
+    /// Removes the first n bytes.
     pub(crate) fn drop_front(&mut self, n: usize)
         requires { n ≤ length self.old }
         ensures { self.new ≡ drop n self.old }
@@ -74,7 +74,7 @@ impl ReservedBuffer {
         self.bytes.truncate(len - n);
     }
 
-    /// All bytes go.
+    /// Removes all bytes.
     pub(crate) fn clear(&mut self)
         ensures { self.new ≡ [] }
     {

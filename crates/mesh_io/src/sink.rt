@@ -7,13 +7,13 @@ use crate::source::Failed;
 
 /// Where bytes go.
 pub trait Sink {
-    /// The bytes that it holds, where it tells them.
+    /// The bytes that it holds, if they are known.
     ghost held: { Self → Option (List ℕ) };
 
     /// How often it has failed: a number that never falls.
     ghost faults: { Self → ℕ };
 
-    /// Takes at least one byte of the prefix of the piece, and says how many.
+    /// Takes the first bytes of the piece, at least one, and returns how many.
     fn put(&mut self, piece: &[u8]) -> Result<usize, Failed>
         requires { 0 < length piece.now }
         ensures some { IfOk result (λ n. (0 < n) × (n ≤ length piece.now)) }

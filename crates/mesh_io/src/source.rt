@@ -13,14 +13,14 @@ pub struct Failed;
 
 /// Where bytes come from.
 pub trait Source {
-    /// The bytes still to come, where it tells them.
+    /// The bytes still to come, if they are known.
     ghost left: { Self → Option (List ℕ) };
 
     /// How often it has failed: a number that never falls.
     ghost faults: { Self → ℕ };
 
-    /// Fills the prefix of the buffer with the next bytes, and says with how many. `Ok(0)` for a
-    /// buffer that isn't empty is the end of the input.
+    /// Puts the next bytes at the start of the buffer, and returns how many. `Ok(0)` for a buffer
+    /// that isn't empty means the end of the input.
     fn take(&mut self, buf: &mut [u8]) -> Result<usize, Failed>
         ensures bound { ReadsAtMost result buf.new }
         ensures bytes { ReadConsumes (left self.old) (left self.new) result buf.new }

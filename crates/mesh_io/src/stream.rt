@@ -9,7 +9,7 @@ use crate::sink::Sink;
 use crate::source::{Failed, Source};
 use std::io::{Read, Write};
 
-/// A source over a reader. It tells no bytes.
+/// A source over a reader. Its `left` is never known.
 #[derive(Drop)]
 pub struct StdSource<R> {
     reader: R,
@@ -48,7 +48,7 @@ impl<R: Read> Source for StdSource<R> {
     }
 }
 
-/// A sink over a writer, which is flushed at each `put`. It tells no bytes.
+/// A sink over a writer, which is flushed at each `put`. Its `held` is never known.
 #[derive(Drop)]
 pub struct StdSink<W> {
     writer: W,

@@ -6,13 +6,13 @@ use crate::sink::Sink;
 use crate::source::Failed;
 use std::marker::{Brand, PhantomData};
 
-/// One borrow of a sink, for a type to name: which reference it is, and what the sink held when
-/// the borrow began.
+/// One borrow of a sink, so that a type can name it: which reference it is, and what the sink held
+/// when the borrow began.
 pub trait Loan {
     /// The reference's ghost name.
     ghost name: { ℕ };
 
-    /// The bytes that the sink held, where it tells them.
+    /// The bytes that the sink held, if they are known.
     ghost start: { Option (List ℕ) };
 }
 
@@ -22,8 +22,8 @@ impl Loan for Brand {
     ghost start = { None };
 }
 
-/// The sink behind a reference. Its type says which borrow it is, so whatever a call that is
-/// handed it does, the reference stays where it is, and the sink has only grown.
+/// The sink behind a reference. Its type says which borrow it is. So whatever a call that gets it
+/// does, the reference stays in place, and the bytes that the sink holds only grow.
 #[derive(Drop)]
 pub struct Through<'s, O: Sink, L: Loan> {
     pub to: &'s mut O,

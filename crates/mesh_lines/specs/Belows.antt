@@ -1,4 +1,4 @@
--- The lines without two spaces before them, and what stands below each: an event, or another line.
+-- The lines without two spaces before them, events and others, and what may be below each.
 use Rattle.std.specs.Prelude.{ℕ, Bool, ◌&&◌, if◌then◌else◌, List, [], ◌∷◌, Option, Some, None, option_and_then, option_map, codes}
 use Rattle.std.specs.Str.{bytes_eq}
 use Rattle.mesh_base.specs.Numbers.{number_up_to, positive}
@@ -30,15 +30,15 @@ copy_words (id ∷ to) =
 abbrev pub is_link : List ℕ → Bool
 is_link word = is_one_of (codes "link" ∷ codes "cut" ∷ []) word
 
--- behind `data`: `ADDR ADDR TEXT`
+-- the words after `data`: `ADDR ADDR TEXT`
 abbrev pub is_given : List (List ℕ) → Bool
 is_given words = holds_of is_text (text_behind words)
 
--- nothing is cast yet
+-- what may be below an event of this node that may cast a packet: none is cast yet
 abbrev pub casting : ℕ → Below
 casting node = Casts node None
 
--- what stands below the event that a line is, if it is one
+-- what may be below the event that a line is; None if the line isn't an event
 abbrev pub event_by : List ℕ → List (List ℕ) → Option Below
 event_by word words =
     if bytes_eq word (codes "turn") then option_map casting (address_in words) else
@@ -58,8 +58,8 @@ is_place word words =
     is_one_of (codes "place" ∷ codes "move" ∷ []) word
     && are (Address ∷ UpTo GREATEST_PLACE ∷ UpTo GREATEST_PLACE ∷ []) words
 
--- what stands below a line that is no event: `show ADDR`, `route ADDR ADDR`, `flight`, and those
--- above
+-- what may be below a line that is no event: `show ADDR`, `route ADDR ADDR`, `flight`, a line that
+-- gives a place, or a line that has none below it
 abbrev pub other_by : List ℕ → List (List ℕ) → Option Below
 other_by word words =
     if bytes_eq word (codes "show") && are (Address ∷ []) words then Some Node else

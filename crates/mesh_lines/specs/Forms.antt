@@ -18,12 +18,12 @@ is_one_of words word = list_any (λ w. bytes_eq word w) words
 abbrev pub is_address : List ℕ → Bool
 is_address word = is_some (address_of word)
 
--- an address that is no less than this, before those that are greater
+-- this is an address no less than `least`, and the others pass with the next number as their least
 abbrev pub address_then : ℕ → Option ℕ → (ℕ → Bool) → Bool
 address_then least None others = false
 address_then least (Some a) others = nat_le least a && others (a + 1)
 
--- addresses in rising order, the first of them no less than this
+-- addresses in rising order, the first of which is no less than this
 abbrev pub rise_from : ℕ → List (List ℕ) → Bool
 rise_from least [] = true
 rise_from least (word ∷ words) = address_then least (address_of word) (λ next. rise_from next words)
@@ -65,20 +65,20 @@ fits Flying word = bytes_eq word (codes "flying")
 fits Lost word = bytes_eq word (codes "lost")
 fits Copied word = bytes_eq word (codes "copied")
 
--- as many words as fields, each of which fits its own
+-- there are as many words as fields, and each word fits its field
 abbrev pub are : List Field → List (List ℕ) → Bool
 are [] [] = true
 are (field ∷ fields) (word ∷ words) = fits field word && are fields words
 are fields words = false
 
--- one word, as what it stands for
+-- what a word denotes, if it is the only one
 abbrev pub alone : (List ℕ → Option ℕ) → List (List ℕ) → Option ℕ
 alone read (word ∷ []) = read word
 alone read others = None
 
 -- ---- texts of data
 
--- what stands behind a backslash: `x`, two digits, and bytes that stand for themselves
+-- what follows a backslash: `x`, two digits, and bytes that denote themselves
 abbrev pub is_escape : List ℕ → Bool
 is_escape (x ∷ high ∷ low ∷ bytes) =
     (x == 120) && is_lower_digit high && is_lower_digit low && are_printable bytes
@@ -92,13 +92,13 @@ are_shown (plain ∷ escapes) = are_printable plain && list_all is_escape escape
 abbrev pub is_body : List ℕ → Bool
 is_body bytes = nat_le 1 (length bytes) && are_shown (parts 92 bytes)
 
--- the text behind two addresses, which may have spaces
+-- the text after two addresses, which may have spaces
 abbrev pub text_behind : List (List ℕ) → Option (List ℕ)
 text_behind (from ∷ to ∷ word ∷ words) =
     if is_address from && is_address to then Some (join_with_byte 32 (word ∷ words)) else None
 text_behind others = None
 
--- there is a text, and it is such a one
+-- there is a text, and it passes this test
 abbrev pub holds_of : (List ℕ → Bool) → Option (List ℕ) → Bool
 holds_of test None = false
 holds_of test (Some text) = test text

@@ -1,5 +1,5 @@
--- The lines of a printed text, by their first word and the words behind it. Those that tell of
--- copies stand in Copies.
+-- The lines of a printed text, by their first word and the words after it. The lines about copies
+-- are in mesh_capture.
 use Rattle.std.specs.Prelude.{ℕ, Bool, false, ◌&&◌, ◌||◌, if◌then◌else◌, List, [], ◌∷◌, ◌++◌, take, drop, length, Option, None, option_and_then, option_map, codes, is_some}
 use Rattle.std.specs.List.{list_any, join_with_byte}
 use Rattle.std.specs.Str.{bytes_eq}
@@ -41,33 +41,33 @@ is_sending word = is_one_of (codes "send" ∷ codes "ask" ∷ []) word
 abbrev pub is_idle : List ℕ → List (List ℕ) → Bool
 is_idle word words = bytes_eq word (codes "idle") && are [] words
 
--- what a turn takes
+-- the kind of what a turn takes
 abbrev pub is_taken_kind : List ℕ → Bool
 is_taken_kind word =
     is_one_of (codes "rreq" ∷ codes "rrep" ∷ codes "rerr" ∷ codes "data" ∷ codes "new" ∷ []) word
 
--- behind `took`: `new D`, `data B`, `rreq B`, `rrep B` or `rerr B`
+-- the words after `took`: `new D`, `data B`, `rreq B`, `rrep B` or `rerr B`
 abbrev pub is_taken : List (List ℕ) → Bool
 is_taken [] = false
 is_taken (kind ∷ who) = is_taken_kind kind && is_some (address_in who)
 
--- behind `delivered` and `dropped`: `O D BODY`
+-- the words after `delivered` and `dropped`: `O D BODY`
 abbrev pub is_datum : List (List ℕ) → Bool
 is_datum words = holds_of is_body (text_behind words)
 
--- below `turn`, `send` and `ask`, beside what tells of packets and copies: data that are delivered
--- or dropped, `broken X`, and `idle`
+-- below `turn`, `send` and `ask`, besides `took`, `sent` and `copy`: data that are delivered or
+-- dropped, `broken X`, and `idle`
 abbrev pub is_of_cast : List ℕ → List (List ℕ) → Bool
 is_of_cast word words =
     if is_one_of (codes "delivered" ∷ codes "dropped" ∷ []) word then is_datum words else
     if bytes_eq word (codes "broken") then are (Address ∷ []) words else is_idle word words
 
--- below `lose`: a datum that is dropped, and `idle`
+-- below `lose`, besides `lost`: a datum that is dropped, and `idle`
 abbrev pub is_of_loss : List ℕ → List (List ℕ) → Bool
 is_of_loss word words =
     if bytes_eq word (codes "dropped") then is_datum words else is_idle word words
 
--- ---- below what shows
+-- ---- below a line that shows something
 
 -- below `show`: `sn N`, `asked O ID`, `entry D DSN DSK FLAG HOPS NEXT PRE`, `waits D FLAG COUNT`,
 -- `inbox COUNT`
@@ -92,13 +92,13 @@ is_of_route word words =
 
 -- ---- the last line
 
--- what is counted, and then these
+-- the counts of a run, and then these fields
 abbrev pub counts_and : List Field → List Field
 counts_and more =
     Events ∷ number ∷ Idle ∷ number ∷ Given ∷ number ∷ Delivered ∷ number ∷ Waiting ∷ number
     ∷ Queued ∷ number ∷ Flying ∷ number ∷ Lost ∷ number ∷ more
 
--- behind `done`: what was counted, and `copied C` where copies of data were doubled
+-- the words after `done`: the counts, and `copied C` if copies of data were doubled
 abbrev pub is_summary : List (List ℕ) → Bool
 is_summary words =
     are (counts_and []) words || are (counts_and (Copied ∷ Positive greatest_id ∷ [])) words
@@ -117,7 +117,7 @@ caster word words =
     if bytes_eq word (codes "turn") then address_in words else
     if is_sending word then sender words else None
 
--- such an event behind a space
+-- such an event, after a space
 abbrev pub is_cast : List (List ℕ) → Bool
 is_cast (front ∷ word ∷ words) = bytes_eq front [] && is_some (caster word words)
 is_cast others = false
@@ -125,7 +125,7 @@ is_cast others = false
 abbrev pub is_counter : List ℕ → Bool
 is_counter text = is_one_of (codes " hops" ∷ codes " number" ∷ codes " id" ∷ []) text
 
--- behind `full`: `line N: EVENT: FIELD`
+-- the words after `full`: `line N: EVENT: FIELD`
 abbrev pub is_full_by : List (List ℕ) → Bool
 is_full_by (line ∷ event ∷ field ∷ []) =
     is_numbered line && is_cast (parts 32 event) && is_counter field
@@ -134,7 +134,7 @@ is_full_by others = false
 abbrev pub is_full : List (List ℕ) → Bool
 is_full words = is_full_by (clauses words)
 
--- a limit that was passed: its label, itself, and what it counts
+-- a limit that was passed: a label, the limit, and what it counts
 abbrev pub is_limit : List ℕ → ℕ → List ℕ → List ℕ → Bool
 is_limit label most what text = bytes_eq text (label_number label most ++ what)
 
@@ -144,7 +144,7 @@ is_past_limit text =
     || is_limit (codes " line longer than ") LONGEST_LINE (codes " bytes") text
     || is_limit (codes " input longer than ") LONGEST_INPUT (codes " bytes") text
 
--- why a line was refused, where that is all
+-- a reason why a line was refused that names no bytes of the line
 abbrev pub is_whole_fault : List ℕ → Bool
 is_whole_fault text =
     is_one_of (codes " wrong number of words" ∷ codes " node after the first event"
@@ -157,7 +157,7 @@ is_fault_at text fault =
     bytes_eq (take (length fault) text) fault
     && are (number ∷ To ∷ number ∷ []) (parts 32 (drop (length fault) text))
 
--- the same of a word or of a node, and the bytes that it is about
+-- a fault of a word or of a node, and which bytes of the line it is about
 abbrev pub is_word_fault : List ℕ → Bool
 is_word_fault text =
     list_any (is_fault_at text) (codes " no command at bytes " ∷ codes " no address at bytes "
@@ -171,7 +171,7 @@ is_node_fault text =
 abbrev pub is_why : List ℕ → Bool
 is_why text = is_whole_fault text || is_word_fault text || is_node_fault text
 
--- behind `bad`: `line N: WHY`
+-- the words after `bad`: `line N: WHY`
 abbrev pub is_refusal_by : List (List ℕ) → Bool
 is_refusal_by (line ∷ why ∷ []) = is_numbered line && is_why why
 is_refusal_by others = false
@@ -179,7 +179,7 @@ is_refusal_by others = false
 abbrev pub is_refusal : List (List ℕ) → Bool
 is_refusal words = is_refusal_by (clauses words)
 
--- ---- lines that have none below them and are no events
+-- ---- lines that are no events and have no lines below them
 
 -- `node ADDR sn NUM`, `auto NUM`, `auto did K` and the last lines
 abbrev pub is_alone : List ℕ → List (List ℕ) → Bool

@@ -1,4 +1,4 @@
--- Packets that lines tell of: none is longer than a mesh may send.
+-- The packets that lines give: none is longer than a mesh may send.
 use Rattle.std.specs.Prelude.{ℕ, ◌≤◌, List, length, Some, ⊤}
 use Rattle.mesh_base.specs.declared.limits.TheConstants.{LONGEST_PACKET}
 use Rattle.mesh_lines.specs.declared.below.Below.{Below}

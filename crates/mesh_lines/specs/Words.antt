@@ -1,4 +1,4 @@
--- The words of a line, where it has so many. No public contract cites them.
+-- The words of a line that has one, two, three or four of them.
 use Rattle.std.specs.Prelude.{ℕ, List, [], ◌∷◌, Option, Some, None}
 
 abbrev pub one_word : List (List ℕ) → Option (List ℕ)

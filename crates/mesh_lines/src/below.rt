@@ -1,4 +1,4 @@
-//! Which lines stand below a line.
+//! Which lines may be below a line.
 ghost use Rattle.std.specs.Prelude.{◌≡◌, IfSome};
 ghost use Rattle.mesh_base.specs.Parts.{rest_parts};
 ghost use Rattle.mesh_lines.specs.Lines as lines;
@@ -14,20 +14,21 @@ use mesh_base::MOST_EVENTS;
 /// The greatest coordinate of a place.
 pub const GREATEST_PLACE: u64 = 1000000;
 
-/// What stands below a line.
+/// What may be below a line.
 #[derive(Drop)]
 pub enum Below {
     /// No line.
     Nothing,
-    /// `idle`, where a link hasn't changed.
+    /// `idle`, if a link hasn't changed.
     Link,
-    /// What an event of this node did that may cast a packet: the packet, once it is cast.
+    /// What an event of this node did that may cast a packet; and the packet, once a line has said
+    /// that it is cast.
     Casts(u32, Option<SharedPacket>),
-    /// That the copy of this number was heard.
+    /// That the copy of this number was heard, or `idle`.
     Delivers(u64),
-    /// That the copy of this number was lost.
+    /// That the copy of this number was lost, a datum that is dropped, or `idle`.
     Loses(u64),
-    /// The copy that doubles the one of this number.
+    /// The copy that doubles the copy of this number, or `idle`.
     Doubles(u64),
     /// A node's tables.
     Node,
@@ -35,7 +36,7 @@ pub enum Below {
     Route,
     /// The copies in flight.
     Flight,
-    /// The links that come and go with a node.
+    /// The links that are made and cut as a node comes to a place, or `idle`.
     Place,
 }
 
@@ -48,7 +49,7 @@ fn is_datum(words: Option<&[u8]>) -> bool
     }
 }
 
-/// What stands below an event, if the line is one.
+/// What may be below the event that a line is. None if the line isn't an event.
 pub fn event_by(word: &[u8], words: Option<&[u8]>) -> Option<Below>
     ensures value { result ≡ belows.event_by word.now (rest_parts 32 words.entry) }
     ensures short { IfSome result IsShortBelow }
@@ -77,7 +78,7 @@ pub fn event_by(word: &[u8], words: Option<&[u8]>) -> Option<Below>
     None
 }
 
-// A line that has none below it and is no event.
+// A line that is no event and has no lines below it.
 fn is_alone(word: &[u8], words: Option<&[u8]>) -> bool
     ensures { result ≡ lines.is_alone word.now (rest_parts 32 words.entry) }
 {
@@ -100,7 +101,7 @@ fn is_alone(word: &[u8], words: Option<&[u8]>) -> bool
     is(word, b"bad") && is_refusal(words)
 }
 
-// A line that puts a node to a place.
+// A line that gives a place to a node.
 fn is_place(word: &[u8], words: Option<&[u8]>) -> bool
     ensures { result ≡ belows.is_place word.now (rest_parts 32 words.entry) }
 {
@@ -112,7 +113,7 @@ fn is_place(word: &[u8], words: Option<&[u8]>) -> bool
     (is(word, b"place") || is(word, b"move")) && are(&fields, words)
 }
 
-/// What stands below a line that is no event, if it is of its form.
+/// What may be below a line that is no event. None if the line has none of the known forms.
 pub fn other_by(word: &[u8], words: Option<&[u8]>) -> Option<Below>
     ensures value { result ≡ belows.other_by word.now (rest_parts 32 words.entry) }
     ensures short { IfSome result IsShortBelow }

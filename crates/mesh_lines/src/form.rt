@@ -139,7 +139,7 @@ fn fits(field: Field, word: &[u8]) -> bool
     }
 }
 
-/// As many words as fields, each of which fits its own.
+/// There are as many words as fields, and each word fits its field.
 pub fn are(fields: &[Field], words: Option<&[u8]>) -> bool
     ensures { result ≡ forms.are fields.now (rest_parts 32 words.entry) }
 {
@@ -165,7 +165,7 @@ fn are_printable(bytes: &[u8]) -> bool
     bytes.iter().all(|b| 32 <= *b && *b <= 126)
 }
 
-/// A datum's text.
+/// A datum's text, as a schedule gives it.
 pub fn is_text(bytes: &[u8]) -> bool
     ensures { result ≡ grammar.is_text bytes.now }
 {
@@ -202,7 +202,7 @@ fn are_escapes(bytes: &[u8]) -> bool
     }
 }
 
-/// A datum's bytes, as they are shown.
+/// A datum's bytes, as a printed text shows them.
 pub fn is_body(bytes: &[u8]) -> bool
     ensures { result ≡ forms.is_body bytes.now }
 {
@@ -219,7 +219,7 @@ pub fn is_body(bytes: &[u8]) -> bool
     }
 }
 
-/// What stands behind two addresses.
+/// The text after two addresses.
 #[tactic(auto, using(crate::proofs::WordLaws::text_of_ends, crate::proofs::WordLaws::no_ends))]
 pub fn text_behind(words: Option<&[u8]>) -> Option<&[u8]>
     ensures some { IfSome result

@@ -13,10 +13,10 @@ use mesh_base::{
 // Any number.
 const COUNT: Field = Field::UpTo(u64::MAX);
 
-// How many words stand behind `done` where no copy of data was doubled.
+// How many words follow `done` if no copy of data was doubled.
 const PLAIN: usize = 16;
 
-/// What stands behind `done`.
+/// The words after `done`.
 pub fn is_summary(words: Option<&[u8]>) -> bool
     ensures { result ≡ lines.is_summary (rest_parts 32 words.entry) }
 {
@@ -50,7 +50,7 @@ fn is_numbered(text: &[u8]) -> bool
     are(&[Field::Line, Field::Positive(u64::MAX)], Some(text))
 }
 
-// An event that may cast a packet, behind a space.
+// An event that may cast a packet, after a space.
 fn is_cast(text: &[u8]) -> bool
     ensures { result ≡ lines.is_cast (parts 32 text.now) }
 {
@@ -80,7 +80,7 @@ fn is_full_by(clauses: Option<&[u8]>) -> bool
     }
 }
 
-/// What stands behind `full`.
+/// The words after `full`.
 #[tactic(auto, using(crate::proofs::WordLaws::full_by))]
 pub fn is_full(words: Option<&[u8]>) -> bool
     ensures { result ≡ lines.is_full (rest_parts 32 words.entry) }
@@ -88,7 +88,7 @@ pub fn is_full(words: Option<&[u8]>) -> bool
     is_full_by(words)
 }
 
-// A limit that was passed: its label, itself, and what it counts.
+// A limit that was passed: a label, the limit, and what it counts.
 fn is_limit(label: &[u8], most: usize, what: &[u8], text: &[u8]) -> bool
     requires { length label.now + 20 + length what.now ≤ LINE_CAPACITY }
     ensures { result ≡ lines.is_limit label.now most what.now text.now }
@@ -108,7 +108,7 @@ fn is_past_limit(text: &[u8]) -> bool
         || is_limit(b" input longer than ", LONGEST_INPUT, b" bytes", text)
 }
 
-// Why a line was refused, where that is all.
+// A reason why a line was refused that names no bytes of the line.
 fn is_whole_fault(text: &[u8]) -> bool
     ensures { result ≡ lines.is_whole_fault text.now }
 {
@@ -119,7 +119,7 @@ fn is_whole_fault(text: &[u8]) -> bool
         || is_past_limit(text)
 }
 
-// This fault, and then the bytes that it is about.
+// This fault, and then which bytes of the line it is about.
 fn is_fault_at(text: &[u8], fault: &[u8]) -> bool
     ensures { result ≡ lines.is_fault_at text.now fault.now }
 {
@@ -129,7 +129,7 @@ fn is_fault_at(text: &[u8], fault: &[u8]) -> bool
     }
 }
 
-// A fault of a word, and where it stands in the line.
+// A fault of a word, and which bytes of the line it is about.
 fn is_word_fault(text: &[u8]) -> bool
     ensures { result ≡ lines.is_word_fault text.now }
 {
@@ -139,7 +139,7 @@ fn is_word_fault(text: &[u8]) -> bool
         || is_fault_at(text, b" no text at bytes ")
 }
 
-// A fault of a node, and where it stands in the line.
+// A fault of a node, and which bytes of the line it is about.
 fn is_node_fault(text: &[u8]) -> bool
     ensures { result ≡ lines.is_node_fault text.now }
 {
@@ -164,7 +164,7 @@ fn is_refusal_by(clauses: Option<&[u8]>) -> bool
     }
 }
 
-/// What stands behind `bad`.
+/// The words after `bad`.
 #[tactic(auto, using(crate::proofs::WordLaws::refusal_by))]
 pub fn is_refusal(words: Option<&[u8]>) -> bool
     ensures { result ≡ lines.is_refusal (rest_parts 32 words.entry) }

@@ -1,9 +1,10 @@
 //! The forms of the lines of a printed text: what each word of a line may be, and which lines can
-//! stand below which. `event_by` and `other_by` say what stands below a line without two spaces
-//! before it; `is_of_cast` and its like take the lines that stand there and tell nothing of copies.
+//! be below which. `event_by` and `other_by` return what may be below a line without two spaces
+//! before it; `is_of_cast` and its like recognize those lines below it that say nothing about
+//! copies.
 //!
-//! A line's words are handed on as the text behind its first word, `None` where nothing stands
-//! there, and are cut from it one by one. No call takes memory but `SharedPacket::new`.
+//! A line's words are handed on as the text after its first word and a space, `None` if there is no
+//! space, and are cut from that text one by one. Only `SharedPacket::new` takes memory.
 #![tactic(auto)]
 
 mod below;

@@ -6,7 +6,7 @@ use std::alloc::Global;
 use std::marker::Model;
 use std::rc::Rc;
 
-/// The packet of a cast. It is kept once, however many share it.
+/// The packet of a cast. It is kept once, however many copies share it.
 #[derive(Drop)]
 pub struct SharedPacket {
     bytes: Rc<Bytes>,
@@ -30,8 +30,8 @@ impl SharedPacket {
         })
     }
 
-    /// The same packet once more, which takes no memory. None where so many share it that one more
-    /// can't be counted.
+    /// The same packet, shared once more, which takes no memory. None if the packet is shared so
+    /// often that one more can't be counted.
     pub fn share(&self) -> Option<SharedPacket>
         ensures { IfSome result (λ packet. packet ≡ self.now) }
     {

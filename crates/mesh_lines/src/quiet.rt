@@ -1,4 +1,4 @@
-//! The lines that tell nothing of copies.
+//! The lines that say nothing about copies.
 ghost use Rattle.std.specs.Prelude.{◌≡◌};
 ghost use Rattle.mesh_base.specs.Parts.{rest_parts};
 ghost use Rattle.mesh_lines.specs.Lines as lines;
@@ -24,7 +24,7 @@ pub fn is_idle(word: &[u8], words: Option<&[u8]>) -> bool
     is(word, b"idle") && are(&[], words)
 }
 
-// What a turn takes, before its neighbour or destination.
+// The kind of what a turn takes, before the neighbour or destination.
 fn is_taken_kind(word: &[u8]) -> bool
     ensures { result ≡ lines.is_taken_kind word.now }
 {
@@ -35,7 +35,7 @@ fn is_taken_kind(word: &[u8]) -> bool
         || is(word, b"new")
 }
 
-/// What stands behind `took`.
+/// The words after `took`.
 pub fn is_taken(words: Option<&[u8]>) -> bool
     ensures { result ≡ lines.is_taken (rest_parts 32 words.entry) }
 {
@@ -46,7 +46,7 @@ pub fn is_taken(words: Option<&[u8]>) -> bool
     is_taken_kind(kind) && address_in(who).is_some()
 }
 
-// What stands behind `delivered` or `dropped`.
+// The words after `delivered` or `dropped`.
 fn is_datum(words: Option<&[u8]>) -> bool
     ensures { result ≡ lines.is_datum (rest_parts 32 words.entry) }
 {
@@ -56,7 +56,7 @@ fn is_datum(words: Option<&[u8]>) -> bool
     }
 }
 
-/// A line below an event that may cast a packet, but for those of packets and copies.
+/// A line below an event that may cast a packet, except `took`, `sent` and `copy`.
 pub fn is_of_cast(word: &[u8], words: Option<&[u8]>) -> bool
     ensures { result ≡ lines.is_of_cast word.now (rest_parts 32 words.entry) }
 {
@@ -69,7 +69,7 @@ pub fn is_of_cast(word: &[u8], words: Option<&[u8]>) -> bool
     is_idle(word, words)
 }
 
-/// A line below a loss, but for the one of its copy.
+/// A line below a loss, except the one that says which copy was lost.
 pub fn is_of_loss(word: &[u8], words: Option<&[u8]>) -> bool
     ensures { result ≡ lines.is_of_loss word.now (rest_parts 32 words.entry) }
 {
@@ -81,7 +81,7 @@ pub fn is_of_loss(word: &[u8], words: Option<&[u8]>) -> bool
 
 // ---- below what shows
 
-// What stands behind `entry`.
+// The words after `entry`.
 fn is_entry(words: Option<&[u8]>) -> bool
     ensures { result ≡ lines.is_entry (rest_parts 32 words.entry) }
 {

@@ -11,7 +11,7 @@ ghost use Rattle.mesh_lines.specs.Words.{one_word, two_words, three_words, four_
 
 use mesh_base::{Addr, number_up_to};
 
-// How many bytes stand before the first one that is `sep`: all, where none is.
+// How many bytes come before the first `sep`: all of them if there is none.
 #[tactic(auto, using(crate::proofs::CutLaws::reached, crate::proofs::CutLaws::ended))]
 fn bytes_before(bytes: &[u8], sep: u8) -> usize
     ensures value { result ≡ position_or_len (λ b. b == sep) bytes.now }
@@ -27,8 +27,8 @@ fn bytes_before(bytes: &[u8], sep: u8) -> usize
     at
 }
 
-/// What stands before the first byte that is `sep`, and what stands after it. The texts are short:
-/// byte by byte they are cut at less cost than by a search that is made for long ones.
+/// What comes before the first `sep`, and what comes after it: None if there is no `sep`. The texts
+/// are short: to go through them byte by byte costs less than a search that is made for long texts.
 #[tactic(auto, using(crate::proofs::CutLaws::cut_there, crate::proofs::CutLaws::not_cut))]
 pub fn cut(bytes: &[u8], sep: u8) -> (&[u8], Option<&[u8]>)
     ensures parts { parts sep bytes.now ≡ result.0.now ∷ rest_parts sep result.1 }
@@ -43,7 +43,7 @@ pub fn cut(bytes: &[u8], sep: u8) -> (&[u8], Option<&[u8]>)
     }
 }
 
-// The part of a text that has one.
+// The only part of a text that has one.
 fn one(words: Option<&[u8]>, sep: u8) -> Option<&[u8]>
     ensures some { IfSome result (λ w. rest_parts sep words.entry ≡ w.now ∷ []) }
     ensures none { IfNone result (one_word (rest_parts sep words.entry) ≡ None) }
@@ -57,7 +57,7 @@ fn one(words: Option<&[u8]>, sep: u8) -> Option<&[u8]>
     }
 }
 
-/// The parts of a text that has two.
+/// The parts of a text that has exactly two.
 pub fn two(words: Option<&[u8]>, sep: u8) -> Option<(&[u8], &[u8])>
     ensures some { IfSome result (λ w. rest_parts sep words.entry ≡ w.0.now ∷ w.1.now ∷ []) }
     ensures none { IfNone result (two_words (rest_parts sep words.entry) ≡ None) }
@@ -67,7 +67,7 @@ pub fn two(words: Option<&[u8]>, sep: u8) -> Option<(&[u8], &[u8])>
     Some((first, second))
 }
 
-/// The parts of a text that has three.
+/// The parts of a text that has exactly three.
 pub fn three(words: Option<&[u8]>, sep: u8) -> Option<(&[u8], &[u8], &[u8])>
     ensures some { IfSome result
         (λ w. rest_parts sep words.entry ≡ w.0.now ∷ w.1.now ∷ w.2.now ∷ []) }
@@ -78,7 +78,7 @@ pub fn three(words: Option<&[u8]>, sep: u8) -> Option<(&[u8], &[u8], &[u8])>
     Some((first, second, third))
 }
 
-/// The parts of a text that has four.
+/// The parts of a text that has exactly four.
 pub fn four(words: Option<&[u8]>, sep: u8) -> Option<(&[u8], &[u8], &[u8], &[u8])>
     ensures some { IfSome result
         (λ w. rest_parts sep words.entry ≡ w.0.now ∷ w.1.now ∷ w.2.now ∷ w.3.now ∷ []) }
@@ -114,7 +114,7 @@ pub fn number(word: &[u8]) -> Option<u64>
     }
 }
 
-/// The number of a copy, where that is all. A number has no space, so none is looked for.
+/// The number of a copy, if it is the only word. A number has no space, so none is looked for.
 #[tactic(auto, using(crate::proofs::WordLaws::only_number))]
 pub fn number_in(words: Option<&[u8]>) -> Option<u64>
     ensures { result ≡ belows.number_in (rest_parts 32 words.entry) }
@@ -122,7 +122,7 @@ pub fn number_in(words: Option<&[u8]>) -> Option<u64>
     number(words?)
 }
 
-/// An address, where that is all. An address has no space, so none is looked for.
+/// An address, if it is the only word. An address has no space, so none is looked for.
 #[tactic(auto, using(crate::proofs::WordLaws::only_address))]
 pub fn address_in(words: Option<&[u8]>) -> Option<u32>
     ensures { result ≡ lines.address_in (rest_parts 32 words.entry) }
@@ -130,7 +130,7 @@ pub fn address_in(words: Option<&[u8]>) -> Option<u32>
     address(words?)
 }
 
-/// The number of a new copy, and its receiver.
+/// The number of a new copy, and the copy's receiver.
 pub fn copy_words(words: Option<&[u8]>) -> Option<(u64, u32)>
     ensures { result ≡ belows.copy_words (rest_parts 32 words.entry) }
 {
@@ -157,7 +157,7 @@ pub fn is(word: &[u8], name: &[u8]) -> bool
     word == name
 }
 
-/// The first word of a link that comes or goes.
+/// The first word of a line that makes or cuts a link.
 pub fn is_link(word: &[u8]) -> bool
     ensures { result ≡ belows.is_link word.now }
 {
@@ -171,7 +171,7 @@ pub fn is_sending(word: &[u8]) -> bool
     is(word, b"send") || is(word, b"ask")
 }
 
-/// The first of two addresses, where they are all.
+/// The first of two addresses, if they are the only words.
 pub fn sender(words: Option<&[u8]>) -> Option<u32>
     ensures { result ≡ lines.sender (rest_parts 32 words.entry) }
 {

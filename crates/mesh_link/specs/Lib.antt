@@ -1,5 +1,5 @@
 -- Read in this order.
--- Datagrams: what is known of those that arrived and were sent.
+-- Datagrams: what is known of the datagrams that arrived or were sent.
 pub mod Datagrams
 -- Sockets: what the adapter over a socket keeps.
 pub mod Sockets

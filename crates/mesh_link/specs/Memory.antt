@@ -9,8 +9,8 @@ use Rattle.mesh_io.specs.declared.source.Failed.{Failed}
 use Rattle.mesh_link.specs.declared.sure.SureLink.{SureLink}
 use Rattle.mesh_link.specs.Datagrams.{Datagram, datagram}
 
--- the port that it is open at; the datagrams that have arrived and those that were sent; for how
--- many more there is room; and the calls so far
+-- the port at which the link is open; the datagrams that have arrived and those that were sent; how
+-- many more there is room for; and the calls so far
 pub record LinkSeen : Type 0 where
   pub port : Option ℕ
   pub arrived : List Datagram
@@ -18,7 +18,7 @@ pub record LinkSeen : Type 0 where
   pub room : ℕ
   pub calls : CallsSeen
 
--- a link that is not open, with room for so many datagrams, which fails at these calls
+-- a link that isn't open, with room for this many datagrams, which fails at these calls
 abbrev pub new_link : ℕ → List ℕ → LinkSeen
 new_link room fails =
     record { port = None; arrived = []; sent = []; room = room; calls = no_calls fails }
@@ -32,18 +32,18 @@ with_arrival link port bytes =
 abbrev pub sent_at : LinkSeen → ℕ → Datagram
 sent_at link i = get_or link.sent i (datagram 0 [])
 
--- each room is for the longest packet
+-- each room is large enough for the longest packet
 abbrev pub AreRooms : List ℕ → Type 0
 AreRooms rooms = AllByRecursion (λ most. LONGEST_PACKET ≤ most) rooms
 
--- a call that fails, and one that doesn't
+-- the link after a call that fails, and after one that doesn't
 abbrev pub after_failure : LinkSeen → LinkSeen
 after_failure link = record link { calls = with_fault (with_call link.calls) }
 
 abbrev pub after_call : LinkSeen → LinkSeen
 after_call link = record link { calls = with_call link.calls }
 
--- a send of so many bytes fails: by plan, for want of room, or since the packet is too long
+-- a send of this many bytes fails: by plan, for lack of room, or because they are too many
 abbrev pub refuses : LinkSeen → ℕ → Bool
 refuses link size = fails_next link.calls || link.room == 0 || nat_lt LONGEST_PACKET size
 
@@ -61,7 +61,7 @@ after_send link port bytes =
       room = link.room - 1;
     }
 
--- all but the first that has arrived
+-- all but the first datagram
 abbrev pub without_first : List Datagram → List Datagram
 without_first [] = []
 without_first (d ∷ ds) = ds
@@ -73,7 +73,7 @@ after_receive link =
 
 -- ---- a link that never fails
 
--- the port that it is open at, and the datagram that has arrived
+-- the port at which the link is open, and the datagram that has arrived
 abbrev pub sure_port : SureLink → Option ℕ
 sure_port link = link.port
 

@@ -29,16 +29,16 @@ impl Model for Parcel {
     ghost view = { λ p. record { port = p.port; bytes = p.bytes } };
 }
 
-/// Keeps the datagrams that arrive until they are received, and those that are sent, up to its
-/// room.
+/// Keeps the datagrams that arrive until they are received, and those that are sent, as long as
+/// there is room.
 #[derive(Drop)]
 pub struct MemLink {
     port: Option<u16>,
     arrived: Vec<Parcel>,
-    // How many of them were received.
+    // How many of the arrived datagrams were received.
     at: usize,
     sent: Vec<Parcel>,
-    // The memory of those that can still be sent.
+    // Memory for the datagrams that can still be sent.
     rooms: Vec<Room>,
     calls: Calls,
 }
@@ -62,7 +62,7 @@ impl Model for MemLink {
         × AreRooms l.rooms.items };
 }
 
-// Rooms for so many packets.
+// Rooms for `count` packets, each for the longest.
 fn rooms_for(alloc: Global, count: usize) -> Result<Vec<Room>, NoMemory>
     ensures count { IfOk result (λ rooms. length rooms.items ≡ count) }
     ensures each { IfOk result (λ rooms. AreRooms rooms.items) }
@@ -75,10 +75,10 @@ fn rooms_for(alloc: Global, count: usize) -> Result<Vec<Room>, NoMemory>
 }
 
 impl MemLink {
-    /// A link that is not open, with room for so many datagrams to be sent, each of at most
+    /// A link that isn't open, with room for `room` datagrams to be sent, each of at most
     /// `LONGEST_PACKET` bytes. It fails exactly at the calls of `open`, `receive` and `send` whose
-    /// numbers, counted together from 1, are in `fails`, and at a send that finds no room or is
-    /// longer than that.
+    /// numbers, counted together from 1, are in `fails`, and at a send that finds no room or whose
+    /// datagram is longer than that.
     pub fn new(alloc: Global, room: usize, fails: &[u64]) -> Result<MemLink, NoMemory>
         ensures { IfOk result (λ link. link ≡ new_link room fails.now) }
     {

@@ -7,7 +7,7 @@ use crate::link::Link;
 use mesh_base::Bytes;
 use mesh_io::Failed;
 
-/// Copies the front of the bytes to the buffer's front, as many as fit, and says how many.
+/// Copies the first bytes to the start of the buffer, as many as fit, and returns how many.
 pub(crate) fn copy_front(bytes: &[u8], buf: &mut [u8]) -> usize
     ensures count { result ≡ min (length bytes.now) (length buf.old) }
     ensures copied { buf.new ≡ take result bytes.now ++ drop result buf.old }
@@ -19,7 +19,7 @@ pub(crate) fn copy_front(bytes: &[u8], buf: &mut [u8]) -> usize
     n
 }
 
-/// Gives one datagram as arrived, keeps none that is sent, and never fails.
+/// A link at which one datagram has arrived, which keeps none that is sent and never fails.
 #[derive(Drop)]
 pub struct SureLink {
     port: Option<u16>,
@@ -29,7 +29,7 @@ pub struct SureLink {
 }
 
 impl SureLink {
-    /// A link that is not open, at which this datagram has arrived from that port.
+    /// A link that isn't open, at which this datagram has arrived from port `from`.
     pub fn new(from: u16, bytes: Bytes) -> SureLink
         ensures port { sure_port result ≡ None }
         ensures arrived { sure_arrived result ≡ datagram from bytes ∷ [] }

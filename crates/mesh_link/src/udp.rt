@@ -7,14 +7,14 @@ use mesh_io::Failed;
 use std::io;
 use std::net::{Ipv4Addr, Net, SocketAddr, SocketAddrV4, UdpSocket};
 
-/// A socket that is bound to a port, and doesn't wait.
+/// A socket that is bound to a port, and whose calls don't wait.
 #[derive(Drop)]
 struct Opened {
     port: u16,
     socket: UdpSocket,
 }
 
-/// A socket on 127.0.0.1. It tells no datagrams.
+/// A socket on 127.0.0.1. Its datagrams aren't known to contracts.
 #[derive(Drop)]
 pub struct UdpLink<'a, R> {
     rt: &'a R,

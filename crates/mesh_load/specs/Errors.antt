@@ -1,4 +1,4 @@
--- What is answered of a run where a validation or a reader answers an error.
+-- What loading answers when a validation or a reader answers an error.
 use Rattle.mesh_checkpoint.specs.declared.validating.ValidateError.{ValidateError}
 use Rattle.mesh_checkpoint.specs.declared.validating.ValidateError.TheVariants as validates
 use Rattle.mesh_restore.specs.declared.error.ReadError.{ReadError}

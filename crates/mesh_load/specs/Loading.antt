@@ -1,4 +1,4 @@
--- Why bytes are refused from which no run goes on.
+-- Why no run goes on from bytes that are refused.
 use Rattle.std.specs.Prelude.{◌≡◌, ◌≢◌, ℕ, List, Some, length, ⊤}
 use Rattle.std.specs.List.{AllByRecursion}
 use Rattle.mesh_base.specs.Meshes.{Nodes}
@@ -21,7 +21,7 @@ use Rattle.mesh_load.specs.declared.error.StateError.TheVariants as errors
 use Rattle.mesh_load.specs.Nodes.{AreListed, IsLeastUnsound}
 
 -- no item names its own node as sender, no copy is from a node to itself, and each packet is
--- written of a message of the mesh
+-- written for a message of the mesh
 pub record AreInPlace (mesh : Nodes) (nodes : List NodeSeen) (copies : List Flying)
     : Type 0 where
   pub items : AllByRecursion HasItemsAt nodes
@@ -48,7 +48,7 @@ pub record IsUnsound (b : List ℕ) (part : Part) : Type 0 where
   pub world_is : body.world ≡ Some world
   pub unsound : IsUnsoundWorld body.mesh (body.head).variant world part
 
--- the first refusal that applies. Memory may be short anywhere
+-- the first refusal that applies. Memory may run out at any time
 abbrev pub IsRefused : List ℕ → StateError → Type 0
 IsRefused b errors.NotState = state.IsRefused b validate.NotState
 IsRefused b errors.Length = state.IsRefused b validate.Length
@@ -57,7 +57,7 @@ IsRefused b errors.Sums = state.IsRefused b validate.Sums
 IsRefused b (errors.Unsound part) = IsUnsound b part
 IsRefused b errors.NoMemory = ⊤
 
--- of those that apply to a checkpoint of a state of a run there is none but want of memory
+-- no refusal but lack of memory applies to a checkpoint of a state of a run
 abbrev pub RunIsUnrefused : Type 0
 RunIsUnrefused =
     (variant : Variant) (input b : List ℕ) (why : StateError)

@@ -8,22 +8,22 @@ use Rattle.mesh_checkpoint.specs.Checkpoint.{Node}
 use Rattle.mesh_checkpoint.specs.Seen.{listed_node}
 use Rattle.mesh_restore.specs.Nodes.{IsNodeAt, ArePrecursorsBelow}
 
--- P holds of each node and its index, the first of which is x
+-- P holds for each node with its index; the index of the first is x
 abbrev pub AllFrom : (ℕ → NodeSeen → Type 0) → ℕ → List NodeSeen → Type 0
 AllFrom P x [] = ⊤
 AllFrom P x (n ∷ ns) = P x n × AllFrom P (x + 1) ns
 
--- node x is as it should be, but for its items
+-- node x is as it should be, except for its items
 abbrev pub IsSoundNodeAt : Variant → ℕ → ℕ → NodeSeen → Type 0
 IsSoundNodeAt variant size x n = IsNodeAt variant x size n × HasSoundCore n
 
--- these nodes are listed, and the state of each is in order
+-- these are the nodes that are listed, and the state of each is in order
 pub record AreListed (variant : Variant) (size : ℕ) (lists : List Node) (nodes : List NodeSeen)
     : Type 0 where
   pub lists_are : lists ≡ map listed_node nodes
   pub each : AllFrom (IsSoundNodeAt variant size) 0 nodes
 
--- node x is listed so. Its precursors are nodes of the mesh, as others couldn't be listed
+-- n is node x as it is listed. Its precursors are nodes of the mesh, as others couldn't be listed
 pub record IsListedAt (variant : Variant) (size : ℕ) (lists : List Node) (x : ℕ) (n : NodeSeen)
     : Type 0 where
   pub mine : IsNodeAt variant x size n
@@ -46,7 +46,7 @@ IsLeastUnsound variant size lists x =
     IsUnsoundAt variant size lists x
     × ((y : ℕ) → y < x → IsSoundAt variant size lists y)
 
--- the nodes were read, and these bytes are left. Where each item is in place, these are the nodes
+-- the nodes were read, and these bytes are left. If each item is in place, all of them were kept
 pub record AreNodesRead (variant : Variant) (size : ℕ) (read : Option (List Node × List ℕ))
     (nodes : List NodeSeen) (in_place : Bool) (rest : List ℕ) : Type 0 where
   pub lists : List Node

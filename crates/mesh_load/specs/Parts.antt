@@ -31,7 +31,7 @@ pub record IsMade {A B : Type 0} (Is : A → B → Type 0) (read : Option (A × 
   pub read_is : read ≡ Some (found, rest)
   pub made : Is found value
 
--- there is nothing to read, or what was read has that part; memory may be short anywhere
+-- nothing can be read, or what can be read has that part; memory may run out at any time
 abbrev pub IsRefusalOf : {A : Type 0} → (A → Part → Type 0) → Option (A × List ℕ) → StateError
     → Type 0
 IsRefusalOf {A} Has read errors.Spelling = read ≡ None
@@ -55,7 +55,7 @@ IsUnsoundNode variant size lists others = ⊥
 
 -- ---- a world
 
--- the numbers of a world are in the table's ranges, and it has no more data than it may begin with
+-- the numbers of a world are in the table's ranges, and it has fewer data than `most_data_at_first`
 pub record IsFitting (size : ℕ) (w : World) : Type 0 where
   pub fits : (world size).fits w ≡ true
   pub few : data_in_world w < most_data_at_first
@@ -75,7 +75,7 @@ pub record IsWorldFrom (mesh : Nodes) (variant : Variant) (found : World) (seen 
   pub in_place : AreInPlace mesh nodes radio.flying
   pub sound : AreSoundParts mesh nodes radio.flying
 
--- the same of a world that may be missing
+-- as IsWorldFrom, for a world that may be missing
 abbrev pub IsMaybeWorldFrom : Nodes → Variant → Option World → Option WorldSeen → Type 0
 IsMaybeWorldFrom mesh variant None None = ⊤
 IsMaybeWorldFrom mesh variant (Some found) (Some seen) = IsWorldFrom mesh variant found seen
@@ -88,7 +88,7 @@ IsUnsoundIfWorld mesh variant (Some found) part = IsUnsoundWorld mesh variant fo
 -- ---- a body
 
 -- the bytes are a body to their end. Its numbers are in the table's ranges, its sums are balanced,
--- and it has no more data than a world may begin with
+-- and it has fewer data than `most_data_at_first`
 pub record IsBody (bytes : List ℕ) : Type 0 where
   pub found : Body
   pub read_is : body.get bytes ≡ Some (found, [])
@@ -112,7 +112,7 @@ abbrev pub IsUnsoundBody : Body → Part → Type 0
 IsUnsoundBody x part = IsUnsoundIfWorld x.mesh (x.head).variant x.world part
 
 -- the state has this body, each part of which is as in a run, and its numbers are in the table's
--- ranges; and it is the one run state with this body
+-- ranges; and it is plain, so no other plain state has this body
 pub record IsRunStateOf (x : Body) (m : RunState) : Type 0 where
   pub body_is : body_of m ≡ x
   pub plain : IsPlainRunState m

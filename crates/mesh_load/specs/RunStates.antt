@@ -1,4 +1,4 @@
--- The states of which a checkpoint has all.
+-- The states that a checkpoint holds in full.
 use Rattle.std.specs.Prelude.{◌≡◌, ◌≤◌, ℕ, List, Option, Some, None, length, ⊤}
 use Rattle.std.specs.List.{AllByRecursion}
 use Rattle.mesh_base.specs.declared.limits.TheConstants.{MOST_NODES}
@@ -14,11 +14,11 @@ use Rattle.mesh_text.specs.Text.{text_of_input}
 use Rattle.mesh_run.specs.RunStates.{AreOfVariant}
 use Rattle.mesh_checkpoint.specs.Points.{body_of, IsState}
 
--- the message is what its packet means. So is each that was read of a packet
+-- the message is what its packet means, as is each message that was read from a packet
 abbrev pub IsPlain : Nodes → Message → Type 0
 IsPlain mesh m = meaning mesh (packet_of mesh m) ≡ m
 
--- the same of an item; a datum is no packet
+-- a message that was heard is what its packet means; a datum that was given has no packet
 abbrev pub IsPlainItem : Nodes → Item → Type 0
 IsPlainItem mesh (New body dest) = ⊤
 IsPlainItem mesh (Heard from m) = IsPlain mesh m
@@ -35,7 +35,7 @@ pub record IsPlainWorld (variant : Variant) (mesh : Nodes) (w : model.World) : T
   pub variant_is : AreOfVariant variant w
   pub plain : ArePlain mesh w
 
--- the same where there is a world; without one no step was taken
+-- if there is a world, it is such a world; without one no step was taken
 abbrev pub HasPlainWorld : Variant → Nodes → ℕ → Option model.World → Type 0
 HasPlainWorld variant mesh steps None = steps ≡ 0
 HasPlainWorld variant mesh steps (Some w) = IsPlainWorld variant mesh w
@@ -43,12 +43,12 @@ HasPlainWorld variant mesh steps (Some w) = IsPlainWorld variant mesh w
 abbrev pub IsPlainRunState : RunState → Type 0
 IsPlainRunState m = HasPlainWorld m.variant m.mesh m.steps m.world
 
--- a body is of one such state
+-- a body is that of at most one such state
 abbrev pub OneRunState : Type 0
 OneRunState =
     (m n : RunState) → IsPlainRunState m → IsPlainRunState n → body_of m ≡ body_of n → m ≡ n
 
--- so a checkpoint is of one
+-- a checkpoint is that of at most one such state
 abbrev pub OneStart : Type 0
 OneStart =
     (b : List ℕ) (m n : RunState) → IsPlainRunState m → IsPlainRunState n

@@ -9,14 +9,15 @@ use mesh_restore::ReadError;
 use mesh_world::Part;
 use thiserror::Error;
 
-/// Why no run goes on from bytes. The first that applies is told, but memory may be short anywhere.
+/// Why no run goes on from bytes. The first reason that applies is answered, but memory may run out
+/// at any time.
 #[derive(Clone, Copy, Debug, PartialEq, Eq, Error)]
 pub enum StateError {
     /// The first four bytes aren't there, or aren't those of a checkpoint.
     #[error("no checkpoint")]
     NotState,
     /// The length isn't there, is greater than that of the longest body, or isn't that of the bytes
-    /// behind it.
+    /// after it.
     #[error("a wrong length")]
     Length,
     /// The body doesn't follow the table to its end.
@@ -29,7 +30,7 @@ pub enum StateError {
     /// This part isn't as in a run.
     #[error("{0}")]
     Unsound(Part),
-    /// Memory was asked for and not found.
+    /// Memory was asked for, and there wasn't enough.
     #[error("no memory")]
     NoMemory,
 }

@@ -4,12 +4,12 @@ ghost use Rattle.mesh_load.specs.RunStates.{OneRunState, OneStart, RunIsPlain};
 
 use mesh_checkpoint::{balanced_is_taken, one_body};
 
-/// A body is of one run state.
+/// A body is that of at most one plain run state (`IsPlainRunState`).
 pub fn one_run_state()
     ensures { OneRunState }
 {}
 
-/// A checkpoint is of one run state.
+/// A checkpoint is that of at most one plain run state.
 pub fn one_start()
     ensures { OneStart }
 {
@@ -17,12 +17,12 @@ pub fn one_start()
 }
 
 /// After the lines of any input the state's messages are what their packets mean, and all that it
-/// names is in its mesh: so it is the one run state of its checkpoint.
+/// names is in its mesh: so it is the one plain run state of its checkpoint.
 pub fn a_run_is_plain()
     ensures { RunIsPlain }
 {}
 
-/// No refusal applies to the checkpoint of a state of a run.
+/// No refusal but lack of memory applies to the checkpoint of a state of a run.
 pub fn a_run_is_unrefused()
     ensures { RunIsUnrefused }
 {

@@ -1,4 +1,4 @@
-//! A checkpoint's bytes become the state of a run, or it is said why not.
+//! Reading the state of a run from a checkpoint's bytes, or why no run goes on from them.
 #![tactic(auto)]
 
 mod error;

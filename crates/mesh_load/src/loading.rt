@@ -32,8 +32,8 @@ fn sums_in(head: &Head) -> Sums
     }
 }
 
-// The run state with this body, or the first part of its world that isn't as in a run. Of
-// the other refusals only want of memory comes: the bytes are a body, and its sums are balanced.
+// The run state with this body, or the first part of its world that isn't as in a run. The only
+// other refusal is lack of memory: the bytes are a body, and its sums are balanced.
 fn restore(alloc: Global, body: &[u8]) -> Result<State<World>, StateError>
     requires { IsBody body.now }
     ensures { Makes IsRunStateOf IsUnsoundBody (model.body.get body.now) result }
@@ -47,18 +47,17 @@ fn restore(alloc: Global, body: &[u8]) -> Result<State<World>, StateError>
     let world = read_maybe_world(alloc, &mesh, head.variant, rest)?;
     match Point::from_parts(mesh, head.variant, world, sums_in(&head), head.lines) {
         Some(point) => {
-            // It says that all which the world names is in its mesh.
+            // Its contract says that all that the world names is in its mesh.
             let _world = point.world();
-            // Without the point's buffers, which take two thirds of its room.
+            // The state without the point's buffers, which take two thirds of its room.
             Ok(point.state)
         }
         None => Err(StateError::Sums),
     }
 }
 
-/// The one run state of which these bytes are the checkpoint; or the first refusal that
-/// applies. Nothing asks for memory before it is known that the bytes are a checkpoint with
-/// balanced sums.
+/// The one plain run state whose checkpoint these bytes are; or the first refusal that applies.
+/// Nothing asks for memory before it is known that the bytes are a checkpoint with balanced sums.
 pub fn load(alloc: Global, b: &[u8]) -> Result<State<World>, StateError>
     ensures exact { MatchResult result (λ p. IsState b.now p) (λ e. IsRefused b.now e) }
     ensures plain { IfOk result IsPlainRunState }
@@ -67,12 +66,12 @@ pub fn load(alloc: Global, b: &[u8]) -> Result<State<World>, StateError>
     ensures lines { IfOk result (λ p. p.lines < SUMS_END) }
     ensures steps { IfOk result (λ p. p.steps ≤ MOST_STEPS) }
 {
-    // What is written of a body is read again: behind the first eight bytes that of the validation.
+    // A body is read back from its bytes: after the first eight, the one that the validation found.
     written_is_read();
-    // A checkpoint has no other body, and where its sums are balanced no refusal of a validation.
+    // A checkpoint has one body, and if its sums are balanced, the validation doesn't refuse it.
     one_body();
     balanced_is_taken();
-    // It says that the bytes have the form of a checkpoint. How many data there are isn't asked.
+    // Its contract says that the bytes are a checkpoint. The number of data isn't needed.
     let _data = validate(b)?;
     restore(alloc, &b[8..])
 }

@@ -13,8 +13,8 @@ use mesh_world::{Nodes, Part};
 use std::alloc::Global;
 
 /// The nodes of the mesh, of this variant, at the start of the bytes; whether each item is in place
-/// (where one isn't, not all nodes are kept); and the bytes behind them. The least node whose state
-/// isn't in order is refused, and then no byte behind it is looked at.
+/// (if one isn't, not all nodes are kept); and the bytes after them. The least node whose state
+/// isn't in order is refused, and then no byte after it is looked at.
 pub(crate) fn read_nodes<'b>(
     alloc: Global,
     mesh: &Mesh,

@@ -36,7 +36,7 @@ fn read_world(
     if !in_place || !apart {
         return Err(StateError::Unsound(Part::Item));
     }
-    // It says that no copy in flight is from a node to itself.
+    // Its contract says that no copy in flight is from a node to itself.
     let _copies = radio.count();
     match World::from_parts(mesh, variant, nodes, radio, steps) {
         Ok(world) => Ok(world),
@@ -44,7 +44,7 @@ fn read_world(
     }
 }
 
-/// The same, if there is a world, behind the byte that says so.
+/// As `read_world`, if there is a world, after the byte that says whether there is.
 pub(crate) fn read_maybe_world(
     alloc: Global,
     mesh: &Mesh,

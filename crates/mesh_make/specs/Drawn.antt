@@ -1,5 +1,5 @@
 -- Part of what the headline says.
--- A line of the steps, by the words that are drawn for it. A node stands here as its index.
+-- A line of the steps, by the words that are drawn for it. A node is given by its index.
 use Rattle.std.specs.Prelude.{ℕ, ◌+◌, ◌*◌, ◌%◌, ◌==◌, if◌then◌else◌, List, [], ◌∷◌, ◌++◌, get_or, codes}
 use Rattle.std.specs.Fmt.{decimal}
 use Rattle.std.specs.Result.{result_unwrap_or}
@@ -18,11 +18,11 @@ pub data Draws : Type 0 where
   OneNode : Draws
   -- a node and another one
   TwoNodes : Draws
-  -- a node and another one. The datum's text is made of the line's number
+  -- a node and another one. The datum's text is made from the line's number
   Datum : Draws
-  -- the number of a copy
+  -- the id of a copy
   Copy : Draws
-  -- nothing: the number is EVENTS_BETWEEN
+  -- nothing: the count is EVENTS_BETWEEN
   Events : Draws
 
 -- what a line does: a command, and what is drawn for its arguments
@@ -58,11 +58,11 @@ action_of w = get_or actions (w % 16) (command.Auto, Events)
 abbrev pub node_by : ℕ → ℕ → ℕ
 node_by nodes w = w % nodes
 
--- the node that a word chooses beside node a: the next one after a where it would be a itself
+-- the node that a word chooses besides node a: the node after a, if it would be a itself
 unfoldable pub other_by : ℕ → ℕ → ℕ → ℕ
 other_by nodes a w = if node_by nodes w == a then (a + 1) % nodes else node_by nodes w
 
--- the copy that a word chooses at line s: there are up to four for each line so far
+-- the id of the copy that a word chooses at line s: from 1 to 4 * s
 unfoldable pub copy_by : ℕ → ℕ → ℕ
 copy_by s w = 1 + w % (4 * s)
 
@@ -92,8 +92,8 @@ arguments_by Datum nodes s rng = two_nodes (λ a b. AddressesAndText a b (datum_
 arguments_by Copy nodes s rng = record { value = OneNumber (copy_by s (word rng)); rng = after rng }
 arguments_by Events nodes s rng = record { value = OneNumber EVENTS_BETWEEN; rng = rng }
 
--- the line that a command makes of drawn arguments. There is one: they are of its form, and two
--- nodes differ
+-- the line of a command and drawn arguments. There is one: the arguments are of the command's form,
+-- and two nodes differ
 abbrev pub line_of : Command → Arguments ℕ → AcceptedLine
 line_of command arguments = result_unwrap_or (lines.made_line command arguments) Nothing
 

@@ -7,7 +7,7 @@ use Rattle.mesh_text.specs.Text.{text_of_input}
 use Rattle.mesh_make.specs.declared.sizes.TheConstants.{MOST_STEPS}
 use Rattle.mesh_make.specs.Made.{made_schedule}
 
--- each line of a made schedule is allowed: in no variant its run ends at a line that is refused
+-- each line of a made schedule is allowed: in no variant does its run end at a line that is refused
 abbrev pub MadeSchedulesAreAllowed : Type 0
 MadeSchedulesAreAllowed =
     (variant : Variant) (seed nodes steps n : ℕ) → 2 ≤ nodes → nodes ≤ MOST_NODES → 1 ≤ steps

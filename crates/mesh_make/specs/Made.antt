@@ -16,34 +16,34 @@ use Rattle.mesh_make.specs.Drawn.{step_line}
 abbrev pub node_address : ℕ → ℕ
 node_address i = FIRST_ADDRESS + i
 
--- the mesh of the first so many nodes
+-- the mesh of this many nodes, from node 0 on
 unfoldable pub mesh_of : ℕ → Nodes
 mesh_of zero = []
 mesh_of (suc count) = with_node (mesh_of count) (node_address count) 1
 
--- node i, whose first sequence number is 1
+-- the line of node i, whose first sequence number is 1
 abbrev pub node_line : ℕ → AcceptedLine
 node_line i = NewNode (node_address i) 1
 
--- the link between node i and the next
+-- the line of the link between node i and the next
 abbrev pub link_line : ℕ → AcceptedLine
 link_line i = Does (Link i (i + 1))
 
--- all comes to rest
+-- the last line, in which all may come to rest
 abbrev pub last_line : AcceptedLine
 last_line = Chooses EVENTS_AT_END
 
--- so many nodes, from node i on
+-- the lines of this many nodes, from node i on
 unfoldable pub node_lines : ℕ → ℕ → List AcceptedLine
 node_lines i zero = []
 node_lines i (suc count) = node_line i ∷ node_lines (i + 1) count
 
--- so many links of the chain, from that of node i on
+-- the lines of this many links of the chain, from the link of node i on
 unfoldable pub chain : ℕ → ℕ → List AcceptedLine
 chain i zero = []
 chain i (suc count) = link_line i ∷ chain (i + 1) count
 
--- so many lines of the steps, from line s on
+-- this many lines of the steps, from line s on
 unfoldable pub step_lines : ℕ → ℕ → ℕ → Lcg → List AcceptedLine
 step_lines nodes s zero rng = []
 step_lines nodes s (suc count) rng =
@@ -62,6 +62,6 @@ lines_of seed nodes steps =
 abbrev pub text_in : Nodes → List AcceptedLine → List ℕ
 text_in mesh lines = flat_map (λ l. written.line (words_of mesh l)) lines
 
--- the schedule
+-- the text of the schedule
 unfoldable pub made_schedule : ℕ → ℕ → ℕ → List ℕ
 made_schedule seed nodes steps = text_in (mesh_of nodes) (lines_of seed nodes steps)

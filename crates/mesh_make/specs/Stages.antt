@@ -10,7 +10,7 @@ use Rattle.mesh_make.specs.declared.sizes.TheConstants.{MOST_STEPS}
 use Rattle.mesh_make.specs.Drawn.{Draw, step_line}
 use Rattle.mesh_make.specs.Made.{node_line, link_line, last_line, node_lines, chain, from_step}
 
--- a stage of a schedule of so many nodes and steps
+-- a stage of a schedule of this many nodes and steps
 abbrev pub IsStage : ℕ → ℕ → Stage → Type 0
 IsStage nodes steps (Node i) = i < nodes
 IsStage nodes steps (Link i) = i + 1 < nodes
@@ -30,17 +30,17 @@ abbrev pub is_end : Stage → Bool
 is_end End = true
 is_end other = false
 
--- the line is that of a node
+-- the next line is a `node` line
 abbrev pub is_node : Stage → Bool
 is_node (Node i) = true
 is_node other = false
 
--- how many nodes are there before the line of a stage
+-- how many nodes the mesh has before the line of a stage
 abbrev pub nodes_at : ℕ → Stage → ℕ
 nodes_at nodes (Node i) = i
 nodes_at nodes other = nodes
 
--- the mesh after a line: one more node, or the same
+-- the mesh after a line: with one more node, or the same mesh
 abbrev pub mesh_after : Nodes → AcceptedLine → Nodes
 mesh_after mesh (NewNode address first) = with_node mesh address first
 mesh_after mesh other = mesh

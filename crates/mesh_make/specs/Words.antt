@@ -6,7 +6,7 @@ use Rattle.rand_core.specs.Pcg32Seed.{pcg32_seed}
 use Rattle.rand_pcg.specs.Lcg.{Lcg}
 use Rattle.rand_pcg.specs.Pcg.{pcg32, pcg32_of_seed}
 
--- the generator that a seed makes, through 16 bytes that are made of it
+-- the generator that a seed makes, through 16 bytes that are made from the seed
 unfoldable pub of_seed : ℕ → Lcg
 of_seed seed = pcg32_of_seed (pcg32_seed 16 seed)
 
@@ -14,6 +14,6 @@ of_seed seed = pcg32_of_seed (pcg32_seed 16 seed)
 unfoldable pub word : Lcg → ℕ
 word rng = (pcg32 rng).0
 
--- the generator once that word is drawn
+-- the generator after that word is drawn
 unfoldable pub after : Lcg → Lcg
 after rng = (pcg32 rng).1

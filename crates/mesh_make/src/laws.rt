@@ -1,7 +1,7 @@
 //! Laws of the definitions. Each function has an empty body and a contract that states a law.
 ghost use Rattle.mesh_make.specs.Laws.{MadeSchedulesAreAllowed, MadeSchedulesAreShort};
 
-/// The run of a made schedule ends at no line that is refused.
+/// No run of a made schedule ends at a line that is refused.
 pub fn made_schedules_are_allowed()
     ensures { MadeSchedulesAreAllowed }
 {}

@@ -1,7 +1,7 @@
-//! Schedules that are made from a seed: a chain of nodes, so many lines that a generator of random
-//! numbers chooses, and a last `auto` that lets all come to rest. A schedule is written to a sink,
-//! read from a source that makes it, or taken line by line as values. Nothing here takes memory.
-//! The run of a schedule refuses none of its lines, which is a law of the definitions.
+//! Schedules that are made from a seed: a chain of nodes, a given number of lines that a random
+//! number generator chooses, and a last `auto` in which all may come to rest. A schedule is written
+//! to a sink, read from a source that makes it, or taken line by line as values. Nothing here takes
+//! memory. That the run of a made schedule refuses none of its lines is a law of the definitions.
 #![tactic(auto)]
 
 mod laws;

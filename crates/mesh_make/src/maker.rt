@@ -42,7 +42,7 @@ pub struct Maker {
     pub mesh: Mesh,
 }
 
-// The line at the stage, and what it draws.
+// The line at a stage. A line of the steps draws words from `rng`.
 #[tactic(auto, unfolding(crate::specs::Stages::line_at))]
 fn line_at<'a>(size: Size, stage: Stage, rng: &mut Lcg64Xsh32, text: &'a mut LineBuf) -> Line<'a>
     requires size { IsSize size.nodes size.steps }
@@ -67,7 +67,7 @@ fn line_at<'a>(size: Size, stage: Stage, rng: &mut Lcg64Xsh32, text: &'a mut Lin
     }
 }
 
-// The mesh after the line.
+// Adds the node of a `node` line to the mesh.
 fn grow(mesh: &mut Mesh, line: &Line<'_>)
     requires { IsPrintable mesh.old line.now }
     ensures { mesh.new ≡ mesh_after mesh.old (accepted_of line.now) }
@@ -107,7 +107,7 @@ impl Maker {
     ghost use Rattle.mesh_script.specs.Seen.{IsAllowed};
     ghost use Rattle.mesh_make.specs.Making.{still_to_come, IsMaking, HasCome, is_done};
 
-    /// A schedule of which no line is made yet.
+    /// A schedule none of whose lines is made yet.
     pub fn new(seed: u64, nodes: u32, steps: u32) -> Maker
         requires size { IsSize nodes steps }
         ensures making { IsMaking result }
@@ -130,9 +130,9 @@ impl Maker {
         matches!(self.stage, Stage::End)
     }
 
-    /// The next line. The text of a datum stands in `text`. In a state to which a run of the lines
-    /// before it has come the line is allowed, and the text that is still to come is run by doing
-    /// it and running what then is still to come.
+    /// The next line. The text of a datum is kept in `text`. In a state that a run of the lines
+    /// before it has come to, the line is allowed, and the run of the text that is still to come
+    /// does this line and then runs what is left of that text.
     pub fn next_line<'a>(&mut self, text: &'a mut LineBuf) -> Line<'a>
         requires making { IsMaking self.old }
         requires more { is_done self.old ≡ false }
@@ -172,8 +172,8 @@ impl Maker {
         self.stage = stage_after(self.size, self.stage);
     }
 
-    /// Makes the next lines, each with its LF, in this buffer: at least one, and as many as are
-    /// sure to find room.
+    /// Makes the next lines, each with its LF, in this buffer: at least one, and more as long as
+    /// there is room for the longest line.
     pub fn next_lines(&mut self, text: &mut LineBuf, out: &mut LineBuf)
         requires making { IsMaking self.old }
         requires more { is_done self.old ≡ false }

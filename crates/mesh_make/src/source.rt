@@ -13,7 +13,7 @@ use mesh_base::LineBuf;
 use mesh_io::{Failed, Source};
 use std::marker::Model;
 
-/// Gives the schedule that a seed makes, of which it holds a few lines at a time. It never fails.
+/// Gives the schedule that a seed makes. It holds a few of its lines at a time, and never fails.
 #[derive(Drop)]
 pub struct MadeSource {
     maker: Maker,
@@ -33,8 +33,8 @@ impl Model for MadeSource {
     ghost invariant = { λ s. (s.at ≤ length s.line) × IsMaking s.maker };
 }
 
-// Makes the next lines where the present ones are read to their end, and says how much of them is
-// read. The text of a datum is made in `text`.
+// Makes the next lines if the present ones have been read to their end. Returns how many bytes of
+// the lines in `line` are read. The text of a datum is made in `text`.
 fn refill(maker: &mut Maker, text: &mut LineBuf, line: &mut LineBuf, at: usize) -> usize
     requires making { IsMaking maker.old }
     requires within { at ≤ length line.old }
@@ -50,7 +50,8 @@ fn refill(maker: &mut Maker, text: &mut LineBuf, line: &mut LineBuf, at: usize) 
     0
 }
 
-// Copies the prefix of the bytes to the buffer's prefix, and says how many.
+// Copies the first bytes, as many as there is room for, to the start of the buffer, and returns how
+// many.
 fn copy_front(bytes: &[u8], buf: &mut [u8]) -> usize
     ensures count { result ≡ min (length bytes.now) (length buf.old) }
     ensures copied { buf.new ≡ take result bytes.now ++ drop result buf.old }
@@ -77,7 +78,7 @@ impl MadeSource {
         }
     }
 
-    // Gives a prefix of what is left, as far as one line goes.
+    // Gives a prefix of what is left, at most the rest of the lines that are made.
     fn give_piece(&mut self, buf: &mut [u8]) -> usize
         ensures room { result ≤ length buf.old }
         ensures within { result ≤ length self.old }

@@ -49,7 +49,7 @@ fn draw_copy(rng: &mut Lcg64Xsh32, step: u32) -> u64
     1 + u64::from(next(rng) % (4 * step))
 }
 
-// The text of the datum that line `step` gives. It stands in `text`.
+// The text of the datum that line `step` gives. It is kept in `text`.
 fn write_text<'a>(step: u32, text: &'a mut LineBuf) -> &'a [u8]
     ensures { result.now ≡ datum_text step }
 {
@@ -60,7 +60,7 @@ fn write_text<'a>(step: u32, text: &'a mut LineBuf) -> &'a [u8]
 }
 
 /// Line `step` of the steps, counted from 1. The remainder by 16 of the next word chooses what the
-/// line does, and the words after it its nodes or its copy. The text of a datum stands in `text`.
+/// line does, and the words after it its nodes or its copy. The text of a datum is kept in `text`.
 pub fn step_line<'a>(nodes: u32, step: u32, rng: &mut Lcg64Xsh32, text: &'a mut LineBuf) -> Line<'a>
     requires two { 2 ≤ nodes }
     requires few { nodes ≤ MOST_NODES }

@@ -10,7 +10,8 @@ use crate::maker::Maker;
 use mesh_base::LineBuf;
 use mesh_io::{PutFault, Sink, put_all};
 
-/// Writes the schedule that a seed makes, line by line. It ends at the first fault of the sink.
+/// Writes the schedule that a seed makes, a few lines at a time. It ends at the first fault of the
+/// sink.
 pub fn make<O: Sink>(seed: u64, nodes: u32, steps: u32, out: &mut O) -> Result<(), PutFault>
     requires two { 2 ≤ nodes }
     requires nodes_most { nodes ≤ MOST_NODES }

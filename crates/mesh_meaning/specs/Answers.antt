@@ -1,4 +1,4 @@
--- What a step's answer, with the packet beside it, says of what happened.
+-- What a step's answer, with the packet that goes with it, says of what happened.
 use Rattle.std.specs.Prelude.{◌≡◌, ℕ, ◌+◌, ◌<◌, ◌^◌, List, [], length, IfSome, ⊤}
 use Rattle.mesh_base.specs.declared.limits.TheConstants.{MOST_NODES}
 use Rattle.mesh_base.specs.Meshes.{Nodes}
@@ -45,7 +45,7 @@ unfoldable pub copies_in : Nodes → ℕ → cast.Cast → Air → List ℕ → 
 copies_in mesh x cast air packet =
     copies_of (cast_in mesh cast packet) (members_below (length mesh) air.to) air.first x
 
--- what happened at node x; where nothing did, this says no more than that
+-- what happened at node x. For an idle event this is a placeholder, which `outcome_in` passes over
 abbrev pub world_effect_in : Nodes → ℕ → Done → List ℕ → WorldEffect
 world_effect_in mesh x done.Idle packet = Changed
 world_effect_in mesh x done.Changed packet = Changed
@@ -58,7 +58,7 @@ world_effect_in mesh x (done.Heard from to) packet = CopyHeard from to
 world_effect_in mesh x (done.Lost flying) packet = CopyLost (copy_in mesh flying)
 world_effect_in mesh x (done.Doubled id to parcel) packet = CopyDoubled id to parcel
 
--- what came of an event at node x, where the world is now w
+-- what came of an event at node x, after which the world is w
 abbrev pub outcome_in : Nodes → ℕ → World → Done → List ℕ → Outcome
 outcome_in mesh x w done.Idle packet = Idle
 outcome_in mesh x w d packet = Next w (world_effect_in mesh x d packet)
@@ -66,19 +66,19 @@ outcome_in mesh x w d packet = Next w (world_effect_in mesh x d packet)
 -- ---- what an answer keeps: all that it names is in the mesh, and its packets are written of
 -- messages of the mesh
 
--- written of a message that names nodes of the mesh only
+-- the packet is written of a message that names only nodes of the mesh
 pub record IsPacketInMesh (mesh : Nodes) (bytes : List ℕ) : Type 0 where
   pub written : IsWritten mesh bytes
   pub in_mesh : IsMessageInMesh (length mesh) (meaning mesh bytes)
 
--- the packet of a cast; there is none where nothing is cast
+-- the packet of a cast is so; it is empty if nothing is cast
 abbrev pub IsCastWritten : Nodes → cast.Cast → List ℕ → Type 0
 IsCastWritten mesh casts.Nothing packet = packet ≡ []
 IsCastWritten mesh (casts.One y) packet = (y < length mesh) × IsPacketInMesh mesh packet
 IsCastWritten mesh (casts.Many s) packet = AreBelow (length mesh) s × IsPacketInMesh mesh packet
 IsCastWritten mesh casts.All packet = IsPacketInMesh mesh packet
 
--- an effect, and the copies of its cast
+-- an effect and the copies of its cast are in the mesh
 pub record IsEffectInMesh (mesh : Nodes) (e : effects.Effect) (air : Air)
     (packet : List ℕ) : Type 0 where
   pub broken : IfSome e.broken (λ y. y < length mesh)

@@ -16,7 +16,7 @@ event_of (events.Deliver id) = model.Deliver id
 event_of (events.Lose id) = model.Lose id
 event_of (events.Double id) = model.Double id
 
--- the node at which an event is. A link or a copy is at none, and 0 stands for that
+-- the node at which an event happens, or 0 for an event of a link or a copy, which is at no node
 abbrev pub node_of : model.Event → ℕ
 node_of (model.Give node dest body) = node
 node_of (model.Turn node) = node

@@ -19,12 +19,12 @@ packet_of mesh m = encoding (out_of mesh m)
 abbrev pub IsWritten : Nodes → List ℕ → Type 0
 IsWritten mesh bytes = IsSent mesh bytes (meaning mesh bytes)
 
--- the same of an item; a datum is no packet
+-- an item's packet, if it was heard, is written of what it means; a datum isn't a packet
 abbrev pub IsWrittenItem : Nodes → items.Item → Type 0
 IsWrittenItem mesh (item.New dest body) = ⊤
 IsWrittenItem mesh (item.Heard from bytes) = IsWritten mesh bytes
 
--- the same of a copy in flight
+-- the packet of a copy in flight is written of what it means
 abbrev pub IsWrittenCopy : Nodes → Flying → Type 0
 IsWrittenCopy mesh f = IsWritten mesh f.bytes
 

@@ -1,5 +1,5 @@
 -- Part of what the headline says.
--- Where the data are, and how they come and go. All counts are of the data that pass a test of
+-- Where the data are, and how they come and go. Every count is of the data that pass a test on
 -- their originator, destination and body: of one datum, or of all.
 use Rattle.std.specs.Prelude.{ℕ, ◌+◌, Bool, true, if◌then◌else◌, List, [], ◌∷◌, zero, suc, length, Option, Some, None}
 use Rattle.std.specs.FinMap as maps
@@ -7,11 +7,11 @@ use Rattle.aodv_model.specs.Cores.{Body, Message, Pkt, Rreq, Rrep, Rerr, Item, N
 use Rattle.aodv_model.specs.Handlers.{Took, Own, Stored, FromNeighbour}
 use Rattle.mesh_model.specs.Worlds.{World, Copy, Event, Give, Turn, Double, find_copy, WorldEffect, Taken, CopyLost, CopyDoubled, Outcome, Idle, Full, Next, step, after}
 
--- of an originator, a destination and a body
+-- a test on a datum's originator, destination and body
 abbrev pub Test : Type 0
 Test = ℕ → ℕ → Body → Bool
 
--- every datum, whatever it is
+-- every datum passes
 abbrev pub any : Test
 any o d b = true
 
@@ -27,18 +27,18 @@ total_below (suc n) f = f n + total_below n f
 
 -- ---- where the data are
 
--- one datum: 1 where it passes the test
+-- one datum: 1 if it passes the test, else 0
 abbrev pub counts : Test → ℕ → ℕ → Body → ℕ
 counts t o d b = if t o d b then 1 else 0
 
--- in a message: only a data packet has a datum
+-- in a message: only a data packet carries a datum
 abbrev pub in_message : Test → Message → ℕ
 in_message t (Pkt b d o) = counts t o d b
 in_message t (Rreq m) = 0
 in_message t (Rrep m) = 0
 in_message t (Rerr dests) = 0
 
--- in an item of the queue of node x, which is the originator of what is given to it
+-- in an item of node x's queue: x is the originator of the data that are given to it
 abbrev pub in_item : Test → ℕ → Item → ℕ
 in_item t x (New b d) = counts t x d b
 in_item t x (Heard from m) = in_message t m
@@ -66,7 +66,7 @@ in_flight t w = total (in_copy t) w.flying
 
 -- ---- how they come and go
 
--- n where the event was done, and 0 where it was idle or refused
+-- n if the event was done, 0 if it was idle or refused
 abbrev pub if_goes : Outcome → ℕ → ℕ
 if_goes Idle n = 0
 if_goes (Full x f) n = 0
@@ -77,7 +77,7 @@ abbrev pub given_data : Test → Event → Outcome → ℕ
 given_data t (Give x d b) o = if_goes o (counts t x d b)
 given_data t others o = 0
 
--- the datum of a copy, if there is one
+-- in a copy that was found: 0 if none was
 abbrev pub in_found : Test → Option Copy → ℕ
 in_found t None = 0
 in_found t (Some c) = in_copy t c
@@ -87,17 +87,17 @@ abbrev pub doubled_data : Test → World → Event → ℕ
 doubled_data t w (Double id) = in_found t (find_copy w.flying id)
 doubled_data t w others = 0
 
--- 1 where a data packet was doubled: what happened tells no more of it
+-- 1 if a data packet was doubled: the effect says no more of the datum
 abbrev pub doubled_in : WorldEffect → ℕ
 doubled_in (CopyDoubled id to parcel) = if parcel then 1 else 0
 doubled_in others = 0
 
--- the same of an outcome
+-- `doubled_in` of what the event of this outcome did
 abbrev pub doubled_at : Outcome → ℕ
 doubled_at (Next w world_effect) = doubled_in world_effect
 doubled_at others = 0
 
--- what node x took, where it is delivered: its own datum, or that of a packet
+-- the datum that node x delivers if it delivers what it took: its own, or a packet's
 abbrev pub in_taken : Test → ℕ → Took → ℕ
 in_taken t x (Own b) = counts t x x b
 in_taken t x (Stored d) = 0
@@ -108,17 +108,17 @@ abbrev pub delivered_in : Test → ℕ → WorldEffect → ℕ
 delivered_in t x (Taken taken effect copies) = if effect.deliver then in_taken t x taken else 0
 delivered_in t x others = 0
 
--- the same of an outcome
+-- `delivered_in` of what the event of this outcome did
 abbrev pub delivered_at : Test → ℕ → Outcome → ℕ
 delivered_at t x (Next w world_effect) = delivered_in t x world_effect
 delivered_at t x others = 0
 
--- the data delivered: by turns
+-- the data that an event delivers: only a turn does
 abbrev pub delivered_data : Test → Event → Outcome → ℕ
 delivered_data t (Turn x) o = delivered_at t x o
 delivered_data t others o = 0
 
--- what was taken, where it is dropped: the datum of a packet
+-- the datum that is dropped with what was taken: a packet's
 abbrev pub in_dropped : Test → Took → ℕ
 in_dropped t (Own b) = 0
 in_dropped t (Stored d) = 0
@@ -130,17 +130,17 @@ dropped_in t (Taken taken effect copies) = if effect.lost then in_dropped t take
 dropped_in t (CopyLost c) = in_copy t c
 dropped_in t others = 0
 
--- the data dropped: by turns, and with lost copies
+-- the data that an event drops: by a turn, or with a lost copy
 abbrev pub dropped_data : Test → Event → Outcome → ℕ
 dropped_data t e (Next w world_effect) = dropped_in t world_effect
 dropped_data t e others = 0
 
--- the sum over a run of what each event's outcome counts
+-- the sum over a run of a count of each event and its outcome
 unfoldable pub over_run : (Event → Outcome → ℕ) → World → List Event → ℕ
 over_run f w [] = 0
 over_run f w (e ∷ es) = f e (step w e) + over_run f (after w (step w e)) es
 
--- the sum over a run of what each event counts in the world before it
+-- the sum over a run of a count of each event in the world before it
 unfoldable pub over_worlds : (World → Event → ℕ) → World → List Event → ℕ
 over_worlds f w [] = 0
 over_worlds f w (e ∷ es) = f w e + over_worlds f (after w (step w e)) es

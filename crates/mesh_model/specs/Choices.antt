@@ -1,23 +1,23 @@
 -- Part of what the headline says.
--- What may be done next in a world, and the choice of the next event: the first that there is of a
--- turn, a delivery, the send of a stored datum, and a request, each at the least node, copy or
+-- What may be done next in a world, and the choice of the next event: a turn if there is one, else
+-- a delivery, else the send of a stored datum, else a request, each at the least node, copy or
 -- destination.
 use Rattle.std.specs.Prelude.{◌≡◌, ◌<◌, ◌≤◌, ◌⊎◌, ⊤, ℕ, zero, suc, ◌+◌, Bool, true, false, if◌then◌else◌, Option, Some, None, option_map, List, [], ◌∷◌, length, slice_get}
 use Rattle.aodv_model.specs.Cores.{Item}
 use Rattle.aodv_model.specs.Handlers.{may_send, may_ask}
 use Rattle.mesh_model.specs.Worlds.{World, Node, Event, Turn, Send, Ask, Deliver}
 
--- the least that passes the test, of so many numbers from i on
+-- the least number that passes the test, of this many numbers from i on
 abbrev pub least_from : ℕ → ℕ → (ℕ → Bool) → Option ℕ
 least_from zero i passes = None
 least_from (suc k) i passes = if passes i then Some i else least_from k (i + 1) passes
 
--- i with what is found of it, or else the rest
+-- i with what is found for it, or the rest if nothing is
 abbrev pub beside : ℕ → Option ℕ → Option (ℕ × ℕ) → Option (ℕ × ℕ)
 beside i (Some d) rest = Some (i, d)
 beside i None rest = rest
 
--- the least of so many numbers from i on of which something is found, and what is found of it
+-- of this many numbers from i on, the least for which something is found, and what is found
 abbrev pub least_pair_from : ℕ → ℕ → (ℕ → Option ℕ) → Option (ℕ × ℕ)
 least_pair_from zero i found = None
 least_pair_from (suc k) i found = beside i (found i) (least_pair_from k (i + 1) found)
@@ -28,17 +28,17 @@ abbrev pub waits : List Item → Bool
 waits [] = false
 waits (item ∷ items) = true
 
--- a turn: its queue isn't empty
+-- the node may take a turn: its queue isn't empty
 abbrev pub may_turn_in : Option Node → Bool
 may_turn_in None = false
 may_turn_in (Some n) = waits n.queue
 
--- the send of a datum that waits for d
+-- the node may send a datum that waits for d
 abbrev pub may_send_in : Option Node → ℕ → Bool
 may_send_in None d = false
 may_send_in (Some n) d = may_send n.core d
 
--- a request for a route to d
+-- the node may ask for a route to d
 abbrev pub may_ask_in : Option Node → ℕ → Bool
 may_ask_in None d = false
 may_ask_in (Some n) d = may_ask n.core d
@@ -66,7 +66,7 @@ unfoldable pub first_ask : World → Option (ℕ × ℕ)
 first_ask w =
     least_pair_from (length w.nodes) 0 (λ x. first_ask_in (length w.nodes) (slice_get w.nodes x))
 
--- the least copy in flight: they stand by rising id
+-- the id of the least copy in flight: copies are in order of rising id
 unfoldable pub first_copy : World → Option ℕ
 first_copy w = option_map (λ c. c.id) (slice_get w.flying 0)
 
@@ -77,7 +77,7 @@ first_of [] = None
 first_of (None ∷ others) = first_of others
 first_of (Some e ∷ others) = Some e
 
--- the next event that is chosen, if any is enabled
+-- the event that is chosen next, if one of these kinds is enabled
 unfoldable pub pick : World → Option Event
 pick w = first_of
     (option_map Turn (first_turn w)
@@ -88,7 +88,7 @@ pick w = first_of
 
 -- ---- the order of choices
 
--- an event of a kind that is chosen
+-- the event is of a kind that may be chosen
 abbrev pub IsChoice : Event → Type 0
 IsChoice (Turn x) = ⊤
 IsChoice (Deliver id) = ⊤
@@ -96,12 +96,12 @@ IsChoice (Send x d) = ⊤
 IsChoice (Ask x d) = ⊤
 IsChoice others = ⊥
 
--- by node, and then by destination
+-- node x and destination d come no later than y and c: by node, and then by destination
 abbrev pub IsPairNoLater : ℕ → ℕ → ℕ → ℕ → Type 0
 IsPairNoLater x d y c = (x < y) ⊎ ((x ≡ y) × (d ≤ c))
 
--- turns by node, then deliveries by copy, then sends and then requests, each by node and
--- destination
+-- the first event comes no later: turns by node, then deliveries by copy, then sends by node and
+-- destination, and then requests by node and destination
 abbrev pub IsNoLater : Event → Event → Type 0
 IsNoLater (Turn x) (Turn y) = x ≤ y
 IsNoLater (Turn x) (Deliver id) = ⊤

@@ -1,4 +1,5 @@
--- Codes of worlds, so that a type of the code can be seen as one. They are no part of the protocol.
+-- Codes of worlds, by which a type of the code can be viewed as one. They are no part of the
+-- protocol.
 use Rattle.std.specs.Prelude.{ℕ, List, refl}
 use Rattle.std.specs.Coded.{Coded, code_by, coded×, coded_ℕ, coded_list}
 use Rattle.aodv_model.specs.Pairs.{Pairs}
@@ -6,13 +7,13 @@ use Rattle.aodv_model.specs.Cores.{Message, Item, Core}
 use Rattle.aodv_model.specs.Codes.{core_code, item_code, message_code, pairs_code}
 use Rattle.mesh_model.specs.Worlds.{Node, Copy, World}
 
--- of nodes
+-- the code of nodes
 abbrev pub node_code : Coded Node
 node_code =
     code_by (Core × List Item) (coded× core_code (coded_list item_code)) (λ n. (n.core, n.queue))
     (λ p. record { core = p.0; queue = p.1 }) (λ _. refl)
 
--- of copies
+-- the code of copies
 abbrev pub copy_code : Coded Copy
 copy_code =
     code_by (ℕ × (ℕ × (ℕ × Message)))
@@ -21,7 +22,7 @@ copy_code =
     (λ p. record { id = p.0; from = p.1.0; to = p.1.1.0; message = p.1.1.1 })
     (λ _. refl)
 
--- of worlds
+-- the code of worlds
 abbrev pub world_code : Coded World
 world_code =
     code_by (List Node × (Pairs × (Pairs × (List Copy × ℕ))))

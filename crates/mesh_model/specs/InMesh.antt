@@ -1,5 +1,5 @@
--- That all which a world names is in its mesh, that copies are numbered in order, and which events
--- are of a mesh.
+-- That everything a world names is in its mesh, that copies are numbered in order, and which events
+-- are events of a mesh.
 use Rattle.std.specs.Prelude.{◌≡◌, ◌≢◌, ℕ, ◌<◌, true, List, length, Some, slice_get, ⊤}
 use Rattle.std.specs.List.{AllByRecursion}
 use Rattle.std.specs.FinSet as sets
@@ -21,15 +21,15 @@ AreNumbered low cs next = AreNumberedBy (λ c. c.id) low cs next
 abbrev pub AreLinks : ℕ → Pairs → Type 0
 AreLinks size pairs = (p : ℕ × ℕ) → sets.contains pairs p ≡ true → (p.0 < p.1) × (p.1 < size)
 
--- node x: its address, its core, its waiting data and what is in its queue
+-- what node x names is in the mesh: its address, its core, its stored data and what is in its queue
 pub record IsNodeInMesh (size x : ℕ) (n : Node) : Type 0 where
   pub named : (n.core).ip ≡ x
   pub core : IsSoundCore size n.core
   pub store : IsStoreInMesh size (n.core).store
   pub queue : AllByRecursion (IsItemInMesh size x) n.queue
 
--- all that the world names is in its mesh; copies are numbered in order; a link that stands has
--- ever stood
+-- everything the world names is in its mesh; copies are numbered in order; a link that stands is
+-- among those that ever stood
 pub record IsInMesh (w : World) : Type 0 where
   pub nodes : (x : ℕ) (n : Node) → slice_get w.nodes x ≡ Some n → IsNodeInMesh (length w.nodes) x n
   pub flying : AllByRecursion (IsCopyInMesh (length w.nodes)) w.flying
@@ -38,7 +38,7 @@ pub record IsInMesh (w : World) : Type 0 where
   pub ever : AreLinks (length w.nodes) w.ever
   pub stood : (p : ℕ × ℕ) → sets.contains w.links p ≡ true → sets.contains w.ever p ≡ true
 
--- an event of a mesh of this size. A copy's id may be any: the event is idle where no copy has it
+-- an event of a mesh of this size. Any copy id will do: the event is idle if no copy has it
 abbrev pub IsEvent : ℕ → Event → Type 0
 IsEvent size (Give x d b) = (x < size) × (d < size) × IsDatum b
 IsEvent size (Turn x) = x < size

@@ -1,7 +1,8 @@
 -- What holds of every world of every run, and why its routes have no cycle.
 -- Along the valid routes for a destination the next node, unless it is the destination, knows more:
--- its number is greater, or equal with fewer hops. What a message told when it was sent stays true
--- of its sender. So round a cycle the pair of number and fewer hops would rise strictly.
+-- its number is greater, or equal with fewer hops. What a message said when it was sent stays true
+-- of its sender. So around a cycle each step would lead to a greater number, or to an equal one
+-- with fewer hops, which can't be.
 use Rattle.std.specs.Prelude.{◌≡◌, ◌≢◌, ℕ, ◌-◌, ◌<◌, ◌≤◌, ◌⊎◌, Some, slice_get, ⊤}
 use Rattle.std.specs.List.{AllByRecursion}
 use Rattle.std.specs.FinMap as maps
@@ -14,7 +15,7 @@ use Rattle.mesh_model.specs.Worlds.{World, Node, Copy}
 use Rattle.mesh_model.specs.Walks.{table}
 use Rattle.mesh_model.specs.InMesh.{IsInMesh}
 
--- the entry's number is above n, or it is n, and the entry is valid with at most h hops
+-- the entry's number is above n; or it is n, and the entry is valid with at most h hops
 abbrev pub IsAtLeast : Entry → ℕ → ℕ → Type 0
 IsAtLeast e n h = (n < e.dsn) ⊎ ((e.dsn ≡ n) × (e.flag ≡ Val) × (e.hops ≤ h))
 
@@ -26,12 +27,13 @@ pub record AtLeast (rt : Table) (d n h : ℕ) : Type 0 where
 
 -- ---- what a request or a reply says of its sender's table
 
--- a request has its originator's number, not 0; and where that node isn't the sender, the sender
--- has at least what it says
+-- a request's number of its originator isn't 0; and if the originator isn't the sender, the
+-- sender's table has at least what the request says
 abbrev pub IsHonestRequest : Table → ℕ → RouteRequest → Type 0
 IsHonestRequest rt from m = (1 ≤ m.osn) × (from ≢ m.oip → AtLeast rt m.oip m.osn m.hops)
 
--- the same of a reply and its destination's number
+-- a reply's number of its destination isn't 0; and if the destination isn't the sender, the
+-- sender's table has at least what the reply says
 abbrev pub IsHonestReply : Table → ℕ → RouteReply → Type 0
 IsHonestReply rt from m = (1 ≤ m.dsn) × (from ≢ m.dip → AtLeast rt m.dip m.dsn m.hops)
 
@@ -53,7 +55,8 @@ IsHonestCopy tables c = IsHonest (tables c.from) c.from c.message
 
 -- ---- what an entry says of its next hop's table
 
--- a valid entry for d whose next hop isn't d: the next hop has at least its number, with a hop less
+-- if the entry for d is valid and its next hop isn't d, the next hop has at least its number, with
+-- one hop less
 abbrev pub IsBacked : (ℕ → Table) → ℕ → Entry → Type 0
 IsBacked tables d e = e.flag ≡ Val → e.next ≢ d → AtLeast (tables e.next) d e.dsn (e.hops - 1)
 

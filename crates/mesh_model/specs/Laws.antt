@@ -49,7 +49,7 @@ RunKeeps =
 
 -- ---- no cycles
 
--- where the invariant holds no destination has a cycle
+-- a world that has what excludes cycles has no cycle for any destination
 abbrev pub NoCycleIn : Type 0
 NoCycleIn = (w : World) (d : ℕ) → IsLoopSafe w → ¬ (Cycle w d)
 
@@ -60,7 +60,7 @@ LoopFree =
     (variant : Variant) (firsts : List ℕ) (events : List Event) (d : ℕ) → ArePositive firsts
     → ¬ (Cycle (run (start variant firsts) events) d)
 
--- along each edge for d from x to y, where y isn't d and has a valid entry for d, y's entry is the
+-- along each edge for d from x to y: if y isn't d and has a valid entry for d, y's entry is the
 -- better one
 abbrev pub BetterAlongEdges : Type 0
 BetterAlongEdges =
@@ -68,34 +68,35 @@ BetterAlongEdges =
     → maps.get (table w y) d ≡ Some e → e.flag ≡ Val
     → is_better e edge.entry ≡ true
 
--- a walk from a node is a list of at most as many nodes as there are
+-- a walk from a node of the mesh has at most as many nodes as the mesh
 abbrev pub WalkIsShort : Type 0
 WalkIsShort =
     (w : World) (d x : ℕ) (ys : List ℕ) → IsInvariant w → x < length w.nodes → IsWalk w d (x ∷ ys)
     → length (x ∷ ys) ≤ length w.nodes
 
--- the end of a route is found: its walk is there, and arrives, or stops where no edge leads on
+-- `route_end` is where a route ends: a walk leads there, and arrives, or stops where no edge leads
+-- on
 abbrev pub RouteEnds : Type 0
 RouteEnds =
     (w : World) (x d : ℕ) → IsInvariant w → x < length w.nodes → IsRouteEnd w x d (route_end w x d)
 
 -- ---- choices
 
--- an event that is chosen is of a kind that is chosen, is one of the mesh, and is enabled
+-- the chosen event is of a kind that may be chosen, is an event of the mesh, and is enabled
 abbrev pub PickIsEnabled : Type 0
 PickIsEnabled = (w : World) (e : Event) → pick w ≡ Some e
     → IsChoice e × IsEvent (length w.nodes) e × (step w e ≢ Idle)
 
--- where such an event is enabled, one is chosen, and it comes no later. So none is chosen exactly
--- where none is enabled
+-- if such an event is enabled, one that comes no later is chosen. So none is chosen exactly where
+-- none is enabled
 abbrev pub PickIsLeast : Type 0
 PickIsLeast = (w : World) (e : Event) → IsInMesh w → IsEvent (length w.nodes) e → IsChoice e
     → step w e ≢ Idle → (chosen : Event) × (pick w ≡ Some chosen) × IsNoLater chosen e
 
 -- ---- the account
 
--- one event: what is there afterwards, was delivered or was dropped, is what was there, was given
--- or was doubled
+-- one event: as many data are there afterwards, were delivered or were dropped, as were there
+-- before, were given or were doubled
 abbrev pub StepBalances : Type 0
 StepBalances = (t : Test) (w : World) (e : Event) → IsEvent (length w.nodes) e → IsInMesh w
     → waiting t (after w (step w e)) + queued_data t (after w (step w e))
@@ -116,13 +117,13 @@ Account =
     + in_flight t (run (start variant firsts) events)
     + over_run (dropped_data t) (start variant firsts) events
 
--- what happened tells how many data, whatever they are, an event doubles
+-- an event's outcome says how many data, whatever they are, the event doubles
 abbrev pub DoublingIsTold : Type 0
 DoublingIsTold = (w : World) (e : Event) → doubled_data any w e ≡ doubled_at (step w e)
 
 -- ---- honest hops
 
--- the opening world has its walks
+-- `HasWalks` holds of the opening world
 abbrev pub StartHasWalks : Type 0
 StartHasWalks = (variant : Variant) (firsts : List ℕ) → HasWalks variant (start variant firsts)
 
@@ -132,8 +133,8 @@ StepKeepsWalks =
     (variant : Variant) (w : World) (e : Event) → IsLoopSafe w → HasWalks variant w
     → HasWalks variant (after w (step w e))
 
--- each valid entry of each world of each run has an honest walk with its hops, which are at most
--- the number of nodes
+-- each valid entry in each world of each run has an honest walk of as many links as its hops, which
+-- are at most the number of nodes
 abbrev pub HonestHops : Type 0
 HonestHops =
     (variant : Variant) (firsts : List ℕ) (events : List Event) (x d : ℕ) (e : Entry)

@@ -1,13 +1,13 @@
 -- The mesh. Read in this order, after the definitions of one node.
--- Numbered: lists of what has an id.
+-- Numbered: lists of things with ids.
 pub mod Numbered
 -- Worlds: the state of the whole mesh, its events, one step, and a run of them.
 pub mod Worlds
 -- Walks: the valid routes of a world as a graph, and its cycles.
 pub mod Walks
--- InMesh: that all which a world names is in its mesh, and which events are of a mesh.
+-- InMesh: that everything a world names is in its mesh, and which events are of a mesh.
 pub mod InMesh
--- Invariants: what holds of every world of every run, and why routes can't go round.
+-- Invariants: what holds of every world of every run, and why routes can't form a cycle.
 pub mod Invariants
 -- Accounts: where the data are, and how they come and go.
 pub mod Accounts
@@ -19,5 +19,5 @@ pub mod Routes
 pub mod Choices
 -- Laws: the statements that this crate proves of the above.
 pub mod Laws
--- Codes: no part of the protocol. They let a type of the code be seen as a world.
+-- Codes: no part of the protocol. They let a type of the code be viewed as a world.
 pub mod Codes

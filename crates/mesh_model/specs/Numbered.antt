@@ -1,5 +1,5 @@
 -- Part of what the headline says.
--- Lists of what has an id, by which copies of messages, and copies of bytes, are found.
+-- Lists of things with ids, by which copies of messages, and copies of bytes, are found.
 use Rattle.std.specs.Prelude.{ℕ, ◌+◌, ◌≤◌, ◌==◌, not, if◌then◌else◌, Option, Some, None, List, [], ◌∷◌, filter}
 
 -- the first with that id

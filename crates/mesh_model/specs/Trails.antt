@@ -15,14 +15,14 @@ use Rattle.mesh_model.specs.Worlds.{World, Node, Copy, are_linked}
 use Rattle.mesh_model.specs.Walks.{table, last}
 use Rattle.mesh_model.specs.Invariants.{AtLeast}
 
--- each two neighbours of the list have been linked at some time
+-- every two neighbours in the list have been linked at some time
 abbrev pub HaveStood : Pairs → List ℕ → Type 0
 HaveStood ever [] = ⊤
 HaveStood ever (x ∷ []) = ⊤
 HaveStood ever (x ∷ (y ∷ ys)) = (are_linked ever x y ≡ true) × HaveStood ever (y ∷ ys)
 
--- An honest walk of x for d with h hops: h + 1 nodes from d to x, in which each two neighbours have
--- been linked at some time, and whose nodes after the first are all different
+-- an honest walk of x for d with h hops: h + 1 nodes from d to x. Every two neighbours have been
+-- linked at some time, and the nodes after the first are all different
 abbrev pub IsHonestWalk : Pairs → ℕ → ℕ → ℕ → List ℕ → Type 0
 IsHonestWalk ever x d h [] = ⊥
 IsHonestWalk ever x d h (first ∷ others) =
@@ -48,7 +48,7 @@ front (x ∷ (y ∷ ys)) = x ∷ front (y ∷ ys)
 abbrev pub IsAbsent : ℕ → List ℕ → Type 0
 IsAbsent x zs = AllByRecursion (λ z. x ≢ z) zs
 
--- what walks speak of: the variant, the tables, the requests that each node has seen, and the links
+-- what walks refer to: the variant, the tables, the requests that each node has seen, and the links
 -- that ever stood
 pub record Around : Type 0 where
   pub variant : Variant
@@ -57,8 +57,8 @@ pub record Around : Type 0 where
   pub ever : Pairs
 
 -- a walk to d, its holder first: neighbours have been linked; the nodes before the last are all
--- different; and each of them has at least the number n, which isn't 0, with as many hops as there
--- are nodes behind it
+-- different; and each of them has at least the number n, which isn't 0, with as many hops as nodes
+-- come after it
 abbrev pub IsBackedWalk : Around → ℕ → ℕ → List ℕ → Type 0
 IsBackedWalk a d n [] = ⊥
 IsBackedWalk a d n (x ∷ []) = x ≡ d
@@ -66,8 +66,8 @@ IsBackedWalk a d n (x ∷ (y ∷ ys)) =
     (are_linked a.ever y x ≡ true) × (1 ≤ n) × AtLeast (a.tables x) d n (length (y ∷ ys))
     × IsAbsent x (front (y ∷ ys)) × IsBackedWalk a d n (y ∷ ys)
 
--- the walk of x's entry for d with number n, h hops and next hop y: that of y, on which x doesn't
--- stand before the end
+-- the walk of x's entry for d with number n, h hops and next hop y: a walk of y, in which x isn't
+-- before the last node
 pub record HasEntryWalk (a : Around) (x d n h y : ℕ) : Type 0 where
   pub others : List ℕ
   pub walk : IsBackedWalk a d n (y ∷ others)
@@ -83,13 +83,13 @@ EntryHasWalk a x d e = e.flag ≡ Val → HasEntryWalk a x d e.dsn e.hops e.next
 abbrev pub EntriesHaveWalks : Around → ℕ → Table → Type 0
 EntriesHaveWalks a x rt = (d : ℕ) (e : Entry) → maps.get rt d ≡ Some e → EntryHasWalk a x d e
 
--- the walk of a reply with number n and h hops: that of its sender
+-- the walk of a reply with number n and h hops: a walk of its sender
 pub record HasReplyWalk (a : Around) (from d n h : ℕ) : Type 0 where
   pub others : List ℕ
   pub walk : IsBackedWalk a d n (from ∷ others)
   pub long : length (from ∷ others) ≡ h + 1
 
--- the walk of a request, each of whose nodes has seen the request
+-- the walk of a request: a walk of its sender, each of whose nodes has seen the request
 pub record HasRequestWalk (a : Around) (from d n h : ℕ) (key : ℕ × ℕ) : Type 0 where
   pub others : List ℕ
   pub walk : IsBackedWalk a d n (from ∷ others)
@@ -103,7 +103,7 @@ MessageHasWalk a from (Rreq m) = HasRequestWalk a from m.oip m.osn m.hops (key_o
 MessageHasWalk a from (Rrep m) = HasReplyWalk a from m.dip m.dsn m.hops
 MessageHasWalk a from (Rerr dests) = ⊤
 
--- an item in the queue of x: its sender has been linked to x
+-- an item in the queue of x: if it was heard, its sender has been linked to x
 abbrev pub ItemHasWalk : Around → ℕ → Item → Type 0
 ItemHasWalk a x (New b d) = ⊤
 ItemHasWalk a x (Heard from m) = (are_linked a.ever from x ≡ true) × MessageHasWalk a from m
@@ -117,7 +117,7 @@ abbrev pub seen_in : Option Node → SeenRequests
 seen_in None = sets.empty
 seen_in (Some n) = (n.core).seen
 
--- what walks of this world speak of
+-- what walks of this world refer to
 abbrev pub around : Variant → World → Around
 around variant w = record {
   variant = variant;
@@ -132,8 +132,8 @@ pub record NodeHasWalks (a : Around) (x : ℕ) (n : Node) : Type 0 where
   pub entries : EntriesHaveWalks a x (n.core).rt
   pub queue : AllByRecursion (ItemHasWalk a x) n.queue
 
--- all nodes are of the variant; each valid entry, and each request and reply in a queue or in
--- flight, has a walk; and a link that stands has ever stood
+-- all nodes have the variant; each valid entry, and each request and reply in a queue or in flight,
+-- has a walk; and a link that stands is among those that ever stood
 pub record HasWalks (variant : Variant) (w : World) : Type 0 where
   pub nodes : (x : ℕ) (n : Node) → slice_get w.nodes x ≡ Some n
       → NodeHasWalks (around variant w) x n

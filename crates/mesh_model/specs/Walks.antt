@@ -7,7 +7,7 @@ use Rattle.aodv_model.specs.declared.entry.Flag.TheVariants.{Val}
 use Rattle.aodv_model.specs.Tables.{Table}
 use Rattle.mesh_model.specs.Worlds.{World, Node}
 
--- the table of a node, empty where there is none
+-- the table of a node, empty if there is none
 abbrev pub rt_in : Option Node → Table
 rt_in None = maps.empty
 rt_in (Some n) = (n.core).rt
@@ -24,18 +24,18 @@ pub record Edge (w : World) (d x y : ℕ) : Type 0 where
   pub valid : entry.flag ≡ Val
   pub next : entry.next ≡ y
 
--- the list's neighbours are edges for d
+-- every two neighbours in the list are an edge for d
 abbrev pub IsWalk : World → ℕ → List ℕ → Type 0
 IsWalk w d [] = ⊤
 IsWalk w d (x ∷ []) = ⊤
 IsWalk w d (x ∷ (y ∷ ys)) = Edge w d x y × IsWalk w d (y ∷ ys)
 
--- the last of x and the others
+-- the last of the list: x, then the others
 abbrev pub last : ℕ → List ℕ → ℕ
 last x [] = x
 last x (y ∷ ys) = last y ys
 
--- a walk of two or more nodes, the last of which is the first
+-- a walk of two or more nodes whose last node is its first
 pub record Cycle (w : World) (d : ℕ) : Type 0 where
   pub first : ℕ
   pub second : ℕ

@@ -47,7 +47,7 @@ pub data Event : Type 0 where
   Send : (node dest : ℕ) → Event
   -- the node asks for a route to dest
   Ask : (node dest : ℕ) → Event
-  -- a link comes to stand, both ways, or falls
+  -- a link is made, both ways, or is cut
   Link : (a b : ℕ) → Event
   Cut : (a b : ℕ) → Event
   -- a copy in flight reaches its receiver's queue, is lost, or is doubled
@@ -77,7 +77,7 @@ range w a = linked_below w.links a (length w.nodes)
 
 -- ---- casts
 
--- those in range to whom the cast goes
+-- the nodes in range to which the cast goes
 unfoldable pub receivers : NodeIds → Cast → NodeIds
 receivers near Nothing = sets.empty
 receivers near (One y m) = sets.intersection (one y) near
@@ -103,7 +103,7 @@ copies w x cast =
 
 -- ---- steps
 
--- the world after node x has done this, and has this queue
+-- the world after this reaction of node x, which leaves it this queue
 unfoldable pub done_by : World → ℕ → Reaction → List Item → World
 done_by w x reaction queue =
     let new = copies w x (reaction.effect).cast in
@@ -113,7 +113,7 @@ done_by w x reaction queue =
       next_copy = w.next_copy + length new;
     }
 
--- the world where the item joins the queue of node x, if there is one
+-- the world with the item at the end of the queue of node x, if there is such a node
 abbrev pub with_item : World → ℕ → Option Node → Item → World
 with_item w x None item = w
 with_item w x (Some n) item = record w {
@@ -128,11 +128,11 @@ push w x item = with_item w x (slice_get w.nodes x) item
 abbrev pub find_copy : List Copy → ℕ → Option Copy
 find_copy cs id = find_by (λ c. c.id) cs id
 
--- the copies but that of that id
+-- the copies except the one of that id
 unfoldable pub without : List Copy → ℕ → List Copy
 without cs id = without_by (λ c. c.id) cs id
 
--- what a step did beside the new world
+-- what a step did besides making the new world
 pub data WorldEffect : Type 0 where
   -- a datum was given, or a link changed
   Changed : WorldEffect
@@ -144,17 +144,17 @@ pub data WorldEffect : Type 0 where
   CopyHeard : (from to : ℕ) → WorldEffect
   -- this copy was lost
   CopyLost : Copy → WorldEffect
-  -- a new copy of this id, to this node, doubles another; and whether it is of a data packet
+  -- a new copy with this id, to this node, doubles another; and whether it is of a data packet
   CopyDoubled : (id to : ℕ) (parcel : Bool) → WorldEffect
 
--- what comes of an event: nothing where it isn't enabled, the refusal of a node whose counter
--- stands at its end, or a new world and what happened
+-- what comes of an event: nothing if it isn't enabled; a refusal, with the node and its full
+-- counter; or a new world and what happened
 pub data Outcome : Type 0 where
   Idle : Outcome
   Full : (node : ℕ) → Counter → Outcome
   Next : World → WorldEffect → Outcome
 
--- the outcome, unless a counter stands at its end
+-- the outcome, unless a counter is full
 abbrev pub unless_full : ℕ → Option Counter → Outcome → Outcome
 unless_full x (Some f) o = Full x f
 unless_full x None o = o
@@ -186,12 +186,12 @@ ask_of w x d core items =
     (Next (done_by w x reaction items) (Sent reaction.effect (copies w x (reaction.effect).cast)))
     else Idle
 
--- what is done where there is such a node
+-- what is done if there is such a node: else the event is idle
 abbrev pub at_node : Option Node → (Core → List Item → Outcome) → Outcome
 at_node None f = Idle
 at_node (Some n) f = f n.core n.queue
 
--- what is done where there is such a copy
+-- what is done if there is such a copy: else the event is idle
 abbrev pub at_copy : Option Copy → (Copy → Outcome) → Outcome
 at_copy None f = Idle
 at_copy (Some c) f = f c
@@ -222,7 +222,7 @@ is_parcel (Rerr dests) = false
 abbrev pub double_of : World → Copy → Copy
 double_of w c = record c { id = w.next_copy }
 
--- the world with that copy more in flight
+-- the world with one more copy like c in flight
 abbrev pub with_double : World → Copy → World
 with_double w c = record w { flying = w.flying ++ double_of w c ∷ []; next_copy = w.next_copy + 1 }
 
@@ -245,7 +245,7 @@ step w (Double id) =
 
 -- ---- runs
 
--- the world after an event. Where the event is idle or refused it is as before
+-- the world after an event: as before it, if the event is idle or refused
 abbrev pub after : World → Outcome → World
 after w Idle = w
 after w (Full x f) = w
@@ -276,7 +276,7 @@ start variant firsts = record {
 abbrev pub first_numbers : meshes.Nodes → List ℕ
 first_numbers mesh = map (λ p. p.1) mesh
 
--- the first sequence numbers that a mesh may have: 1 to 200, each from 1 to the greatest
+-- the first sequence numbers that a mesh may have: 1 to 200 of them, each from 1 to the greatest
 pub record AreFirstNumbers (firsts : List ℕ) : Type 0 where
   pub some : 1 ≤ length firsts
   pub few : length firsts ≤ MOST_NODES

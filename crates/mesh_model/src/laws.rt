@@ -21,7 +21,7 @@ pub fn run_keeps()
     ensures { RunKeeps }
 {}
 
-/// Where the invariant holds no destination has a cycle.
+/// A world in which `IsLoopSafe` holds has no cycle for any destination.
 pub fn no_cycle_in()
     ensures { NoCycleIn }
 {}
@@ -36,23 +36,23 @@ pub fn better_along_edges()
     ensures { BetterAlongEdges }
 {}
 
-/// A walk is a list of at most as many nodes as there are.
+/// A walk from a node of the mesh has at most as many nodes as the mesh.
 pub fn walk_is_short()
     ensures { WalkIsShort }
 {}
 
-/// The end of a route is found, with its walk.
+/// `route_end` is where a route ends, and a walk leads there.
 pub fn route_ends()
     ensures { RouteEnds }
 {}
 
-/// An event that is chosen is a turn, a delivery, a send or a request of the mesh, and is enabled.
+/// The chosen event is a turn, a delivery, a send or a request of the mesh, and is enabled.
 pub fn pick_is_enabled()
     ensures { PickIsEnabled }
 {}
 
-/// Where a turn, a delivery, a send or a request is enabled, one is chosen, and none that is
-/// enabled comes before it.
+/// If a turn, a delivery, a send or a request is enabled, one is chosen, and no enabled one comes
+/// before it.
 pub fn pick_is_least()
     ensures { PickIsLeast }
 {}
@@ -67,12 +67,12 @@ pub fn account()
     ensures { Account }
 {}
 
-/// What happened tells how many data an event doubles.
+/// An event's outcome says how many data the event doubles.
 pub fn doubling_is_told()
     ensures { DoublingIsTold }
 {}
 
-/// The opening world has its walks.
+/// `HasWalks` holds of the opening world.
 pub fn start_has_walks()
     ensures { StartHasWalks }
 {}
@@ -82,7 +82,8 @@ pub fn step_keeps_walks()
     ensures { StepKeepsWalks }
 {}
 
-/// Each valid entry of each run has an honest walk with its hops.
+/// Each valid entry in each world of each run has an honest walk of as many links as its hops. They
+/// are at most as many as the nodes.
 pub fn honest_hops()
     ensures { HonestHops }
 {}

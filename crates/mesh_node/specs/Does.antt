@@ -1,9 +1,9 @@
--- What the program has done for a port.
+-- What the program has done at a port.
 use Rattle.std.specs.Prelude.{◌≡◌, ◌⊎◌, ℕ, Option, Some, None, ⊤}
 use Rattle.mesh_router.specs.declared.status.NodeStatus.{NodeStatus}
 use Rattle.mesh_router.specs.declared.status.NodeStatus.TheVariants.{Done, Usage, BadLine, Full, ReadFault, WriteFault, NoMemory, LinkFault}
 
--- the link is open at the port, or its opening has failed
+-- the link is open at the port, or opening it failed
 abbrev pub IsOpened : ℕ → Option ℕ → NodeStatus → Type 0
 IsOpened port now status = (now ≡ Some port) ⊎ ((now ≡ None) × (status ≡ LinkFault))
 

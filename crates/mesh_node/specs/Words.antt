@@ -7,7 +7,7 @@ use Rattle.mesh_peers.specs.declared.limits.TheConstants.{GREATEST_PORT}
 abbrev pub port_in : List ℕ → Option ℕ
 port_in word = positive (number_up_to GREATEST_PORT word)
 
--- the port that is asked for
+-- the port that the words ask for
 abbrev pub port_of : List (List ℕ) → Option ℕ
 port_of (word ∷ []) = port_in word
 port_of others = None

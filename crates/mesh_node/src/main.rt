@@ -1,6 +1,6 @@
 //! The program `mesh_node`: one router on a socket of this machine. It reads the script of the
-//! router from standard input, writes what comes of each line to standard output, and speaks with
-//! its peers in datagrams. The top call, over any source, sink and link, has the whole contract;
+//! router from standard input, writes what comes of each line to standard output, and exchanges
+//! datagrams with its peers. The top call, over any source, sink and link, has the whole contract;
 //! `main` makes the adapters over the standard streams and the socket, and ends with the status of
 //! the answer.
 #![tactic(auto)]
@@ -16,7 +16,8 @@ use std::io;
 use std::io::Write;
 use std::process::ExitCode;
 
-// The status where there are no words to take. Words that are no text are of no form.
+// The status if the command line's words can't be taken. Words that aren't text are in none of the
+// program's forms.
 fn without_words(e: WordsError) -> NodeStatus {
     match e {
         WordsError::NotText => NodeStatus::Usage,
@@ -24,9 +25,9 @@ fn without_words(e: WordsError) -> NodeStatus {
     }
 }
 
-// Runs the router over standard input and output and a socket. Where one of the two streams is
-// closed it is told before a socket is opened, which would take its place: whoever sends datagrams
-// would then write the script.
+// Runs the router over standard input and output and a socket. If one of the two streams is closed,
+// that is reported before a socket is opened: the socket would take the stream's place, and whoever
+// sends datagrams would write the script.
 fn status_of(rt: &HostRuntime) -> Result<NodeStatus, NodeStatus> {
     let words = words_of(rt).map_err(without_words)?;
     let texts = texts_of(rt.alloc(), &words).map_err(without_words)?;

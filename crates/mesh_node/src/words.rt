@@ -14,7 +14,8 @@ fn port_in(word: &str) -> Option<u16>
     if n == 0 { None } else { Some(n as u16) }
 }
 
-/// The port that the words ask for. None exactly where there isn't one word that denotes a port.
+/// The port that the words ask for. None exactly where the words aren't one word that denotes a
+/// port.
 pub fn port_of(words: &[&str]) -> Option<u16>
     ensures { result ≡ port_of (map (λ w. w.now) words.now) }
 {

@@ -1,3 +1,3 @@
--- Read in this order: the variant of a number, and what a call has told.
+-- Read in this order: the variant of a number, and what a call has written and answered.
 pub mod Variants
 pub mod Told

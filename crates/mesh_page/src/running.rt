@@ -1,4 +1,4 @@
-//! A run from bytes in memory to memory of a caller's own.
+//! A run from bytes in memory to the caller's own memory.
 ghost use Rattle.std.specs.Prelude.{◌≡◌, ◌≢◌, [], Some, length, take, drop};
 ghost use Rattle.mesh_run.specs.Causes.{HasStatusCause};
 ghost use Rattle.mesh_run.specs.Outputs.{IsOutput};
@@ -34,7 +34,7 @@ fn run_by<O: Sink>(
     }
 }
 
-// The same to memory of one borrow, which comes back.
+// `run_by` to memory of one borrow, which is returned.
 fn run_into<'s, L: Lent>(
     alloc: Global,
     variant: Variant,
@@ -64,7 +64,7 @@ fn run_into<'s, L: Lent>(
 /// Runs the schedule of these bytes, in a world of its own where all nodes run this variant of the
 /// protocol, and writes its text from the start of `out` on, with a block below each event that has
 /// changed a node, or without; `len` is then how many bytes it has written. WriteFault is answered
-/// only where `out` is full; what stands behind the text is as it was.
+/// only if `out` is full; what comes after the text in `out` is as it was.
 pub(crate) fn run_in_memory(
     alloc: Global,
     variant: Variant,
@@ -87,7 +87,7 @@ pub(crate) fn run_in_memory(
     };
     let mut source = SureSource::new(bytes);
     let mut status = Status::NoMemory;
-    // It says that what comes back is `out`, as the sheet has left it.
+    // For the proof: what is returned is `out`, as the sheet has left it.
     let _out = run_into::<Brand>(alloc, variant, blocks, &mut source, out, len, &mut status);
     status
 }

@@ -4,8 +4,8 @@ ghost use Rattle.std.specs.Prelude.{◌≡◌, ◌≢◌, ◌≤◌, ◌+◌, �
 use mesh_io::{Failed, Sink};
 use std::marker::{Brand, PhantomData};
 
-/// One borrow of memory, for a type to name: which reference it is, and the bytes that stood there
-/// when the borrow began.
+/// One borrow of memory, as a type: which reference it is, and the bytes that were there when the
+/// borrow began.
 pub trait Lent {
     /// The reference's ghost name.
     ghost name: { ℕ };
@@ -21,8 +21,8 @@ impl Lent for Brand {
 }
 
 /// Memory that is written from its start on, up to its end. Its type says which borrow it is, so
-/// whatever a call that is handed it does, the reference stays where it is; what stands behind the
-/// bytes that were put is as it was; and where a call has failed there is no room left.
+/// that, whatever a call does that is given it, the reference stays the same; what comes after the
+/// bytes that were put is as it was; and once a put has failed, there is no room left.
 #[derive(Drop)]
 pub struct Sheet<'s, L: Lent> {
     memory: &'s mut [u8],
@@ -36,7 +36,8 @@ pub struct Sheet<'s, L: Lent> {
     pub ghost full: { failed ≢ 0 → len ≡ length L.start },
 }
 
-// Copies a prefix of the piece to the memory from an offset on, as much as fits, and says how much.
+// Copies the longest prefix of the piece that fits into the memory from an offset on, and returns
+// its length.
 fn lay(memory: &mut [u8], at: usize, piece: &[u8]) -> usize
     requires { at ≤ length memory.old }
     ensures count { result ≡ min (length piece.now) (length memory.old - at) }
@@ -50,7 +51,7 @@ fn lay(memory: &mut [u8], at: usize, piece: &[u8]) -> usize
 }
 
 impl<'s, L: Lent> Sheet<'s, L> {
-    /// An empty one.
+    /// A sheet with nothing put yet.
     pub fn new(memory: &'s mut [u8]) -> Sheet<'s, L>
         requires name { memory.ghost_name ≡ L.name }
         requires start { memory.old ≡ L.start }
@@ -73,7 +74,7 @@ impl<'s, L: Lent> Sheet<'s, L> {
         self.len
     }
 
-    /// The reference.
+    /// Gives the reference back.
     pub fn give_back(self) -> &'s mut [u8]
         ensures name { result.ghost_name ≡ L.name }
         ensures memory { result.now ≡ self.entry.memory.now }

@@ -19,7 +19,7 @@ use Rattle.mesh_peers.specs.Peers.{PeersSeen, at_port}
 
 -- ---- whether a line is allowed
 
--- a line that is allowed where it stands, with each node by its index
+-- a line that is allowed at its point of the script, with each node by its index
 pub data AcceptedLine : Type 0 where
   -- a blank line
   Nothing : AcceptedLine
@@ -31,7 +31,7 @@ pub data AcceptedLine : Type 0 where
   Down : (node : ℕ) → AcceptedLine
   -- a datum is given to the node
   Give : (dest : ℕ) (body : List ℕ) → AcceptedLine
-  -- up to so many datagrams are received; up to so many turns are done
+  -- up to this many datagrams are received; up to this many turns are done
   Polls : (count : ℕ) → AcceptedLine
   Turns : (count : ℕ) → AcceptedLine
   -- a datum that waits is sent; a route is asked for
@@ -40,18 +40,18 @@ pub data AcceptedLine : Type 0 where
   -- the node's state is shown
   Shows : AcceptedLine
 
--- no line but `self` and `peer` comes before the node itself is named
+-- what a line comes to, or its fault if the node itself isn't named yet
 abbrev pub after_self : Option ℕ → Result AcceptedLine LineFault → Result AcceptedLine LineFault
 after_self None r = Err Early
 after_self (Some me) r = r
 
--- a line about a peer, which is not the node itself
+-- a line about this node, which mustn't be the node itself
 abbrev pub of_other : Option ℕ → ℕ → AcceptedLine → Result AcceptedLine LineFault
 of_other None x line = Ok line
 of_other (Some me) x line = if x == me then Err Same else Ok line
 
--- the line that a command makes of its arguments, with each node by its index. Arguments of another
--- command make none
+-- the line of a command with these arguments, with each node by its index. There is none for
+-- arguments in another command's form
 abbrev pub made_line : Option ℕ → Command → Arguments ℕ → Result AcceptedLine LineFault
 made_line me command.Up (OneAddress x) = of_other me x (Up x)
 made_line me command.Down (OneAddress x) = of_other me x (Down x)
@@ -63,11 +63,11 @@ made_line me command.Ask (OneAddress x) = Ok (Asks x)
 made_line me command.Show NoArgument = Ok Shows
 made_line me others arguments = Err Count
 
--- one more node, where there is room for it
+-- one more node, if there is room for it
 abbrev pub in_room : Nodes → AcceptedLine → Result AcceptedLine LineFault
 in_room mesh line = if length mesh == MOST_NODES then Err TooManyNodes else Ok line
 
--- the node itself, once, before the run has started
+-- a line that names the node itself: once only, and before the run has started
 abbrev pub new_self : PeersSeen → Bool → SpannedAddr → ℕ → Result AcceptedLine LineFault
 new_self p started a first =
     if started then Err Late else
@@ -75,12 +75,12 @@ new_self p started a first =
     if is_some (index_of p.mesh a.address) then Err (TwiceNode a.span) else
     in_room p.mesh (Own a.address first)
 
--- the bytes of a number that ends a line of this length
+-- which bytes of a line of this length are the number that ends it
 abbrev pub last_span : ℕ → ℕ → Span
 last_span size n = record { from = size - length (decimal n); to = size }
 
--- a peer with an address and a port of its own, before the run has started. The port ends the line,
--- which has this length
+-- a line of this length that names a peer, with an address and a port that no other node has:
+-- before the run has started only. The port ends the line
 abbrev pub new_peer : PeersSeen → Bool → ℕ → SpannedAddr → ℕ → Result AcceptedLine LineFault
 new_peer p started size a port =
     if started then Err Late else
@@ -88,8 +88,8 @@ new_peer p started size a port =
     if is_some (at_port p port) then Err (TwiceNode (last_span size port)) else
     in_room p.mesh (Peer a.address port)
 
--- a command and its arguments with these peers: one more node, or a line about the nodes that are
--- there. A run has started once a line was neither blank nor a `self` or `peer` line
+-- what a command and its arguments come to with these peers: one more node, or a line about the
+-- nodes so far. A run has started once a line was neither blank nor a `self` or `peer` line
 abbrev pub accepted_line : PeersSeen → Bool → ℕ → Command → Arguments SpannedAddr
     → Result AcceptedLine LineFault
 accepted_line p started size command (NumberedAddress a first) = new_self p started a first
@@ -102,14 +102,15 @@ abbrev pub accepted_shape : PeersSeen → Bool → ℕ → Option (Shape Command
 accepted_shape p started size None = Ok Nothing
 accepted_shape p started size (Some s) = accepted_line p started size s.command s.arguments
 
--- what a line comes to: its own faults first, then those of where it stands
+-- what a line comes to: the faults that it has by itself come before those that it has because of
+-- the lines above it
 unfoldable pub line_of : PeersSeen → Bool → List ℕ → Result AcceptedLine LineFault
 line_of p started line =
     result_and_then (accepted_shape p started (length line)) (shape_of line)
 
 -- ---- how a line is written back
 
--- the words of an allowed line. A blank one is written as none
+-- the words of an allowed line. A blank line has none
 unfoldable pub words_of : Nodes → AcceptedLine → List ℕ
 words_of mesh Nothing = []
 words_of mesh (Own address first) = command_text (codes "self") (NumberedAddress address first)
@@ -123,15 +124,15 @@ words_of mesh (Sends x) = command_text (codes "send") (OneAddress (addr_at mesh 
 words_of mesh (Asks x) = command_text (codes "ask") (OneAddress (addr_at mesh x))
 words_of mesh Shows = command_text (codes "show") NoArgument
 
--- ---- the lines that have a text which is read back
+-- ---- the lines whose text is read back as the same line
 
--- an address that isn't there yet, and finds room
+-- an address that isn't in the mesh yet, for which there is room
 pub record IsNew (mesh : Nodes) (address : ℕ) : Type 0 where
   pub fits : address < 2 ^ 32
   pub absent : index_of mesh address ≡ None
   pub few : length mesh < MOST_NODES
 
--- a node of the mesh, where the node itself was named
+-- a node of the mesh, and the node itself is named
 abbrev pub IsNamed : PeersSeen → ℕ → Type 0
 IsNamed p x = (is_some p.me ≡ true) × (x < length p.mesh)
 

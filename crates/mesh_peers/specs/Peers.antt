@@ -1,4 +1,4 @@
--- A router's mesh, itself in it, and the port of each of its peers.
+-- A router's mesh, the node itself in that mesh, and the port of each peer.
 use Rattle.std.specs.Prelude.{◌≡◌, ◌<◌, ◌↔◌, ℕ, ◌+◌, ◌==◌, List, [], length, Option, Some, None, IfSome, if◌then◌else◌, position, insert, get_or, option_map, nat_lt, nat_le}
 use Rattle.std.specs.List.{position_or_len}
 use Rattle.std.specs.Coded.{Coded, code_by, coded×, coded_ℕ, coded_list, coded_option}
@@ -19,7 +19,7 @@ no_peers = record { mesh = []; me = None; ports = [] }
 abbrev pub index_for : Nodes → ℕ → ℕ
 index_for mesh a = position_or_len (λ q. nat_lt a q.0) mesh
 
--- where a node stands once there is one more at this index
+-- the index of node i once one more node is at this index
 abbrev pub moved_index : ℕ → ℕ → ℕ
 moved_index index i = if nat_le index i then i + 1 else i
 
@@ -31,7 +31,7 @@ with_self p a first = record {
   ports = insert p.ports (index_for p.mesh a) 0;
 }
 
--- a peer joins the mesh. Its first number is 1
+-- a peer joins the mesh. Its first sequence number is 1
 unfoldable pub with_peer : PeersSeen → ℕ → ℕ → PeersSeen
 with_peer p a port = record {
   mesh = with_node p.mesh a 1;
@@ -39,7 +39,7 @@ with_peer p a port = record {
   ports = insert p.ports (index_for p.mesh a) port;
 }
 
--- the peer at that port
+-- the peer at this port
 abbrev pub at_port : PeersSeen → ℕ → Option ℕ
 at_port p port = if port == 0 then None else position (λ q. q == port) p.ports
 

@@ -1,4 +1,4 @@
--- A line of the program as the definitions have it, and what is known of one that is allowed.
+-- The definitions' line for the code's line, and what is known of a line that is allowed.
 use Rattle.std.specs.Prelude.{◌≡◌, ◌≤◌, ℕ, Bool, List, length, Option, Some, None, Result, Ok, Err, ⊤}
 use Rattle.std.specs.Fmt.{decimal}
 use Rattle.mesh_grammar.specs.declared.fault.LineFault.{LineFault}
@@ -20,7 +20,7 @@ use Rattle.mesh_peers.specs.Peers.{PeersSeen}
 
 -- ---- a line by itself
 
--- the row of this word
+-- the definitions' row for the code's row, with its word
 abbrev pub row_with : List ℕ → Row → scripts.Row Command
 row_with word r = record { command = r.command; word = word; form = r.form }
 
@@ -37,7 +37,7 @@ abbrev pub seen_shape : Result (Option Shape) LineFault
 seen_shape (Ok said) = Ok (said_of said)
 seen_shape (Err f) = Err f
 
--- the form of each command's arguments, as the table has it
+-- the form of each command's arguments, as in the table
 abbrev pub form_of : Command → Form
 form_of command.Own = form.Numbered
 form_of command.Peer = form.AddressNumber GREATEST_PORT
@@ -50,19 +50,19 @@ form_of command.Send = form.Address
 form_of command.Ask = form.Address
 form_of command.Show = form.Bare
 
--- a number after an address ends a line of this length
+-- a number after an address fits in a line of this length
 abbrev pub EndsIn : ℕ → Arguments words.SpannedAddr → Type 0
 EndsIn size (AddressAndNumber a n) = length (decimal n) ≤ size
 EndsIn size others = ⊤
 
--- what a line of this length says has arguments of its command's form
+-- what a line of this length says has arguments in its command's form, and they fit in the line
 abbrev pub IsSaidIn : ℕ → Option Shape → Type 0
 IsSaidIn size None = ⊤
 IsSaidIn size (Some s) =
     AreOfForm (form_of s.command) (all_spanned_of s.arguments)
     × EndsIn size (all_spanned_of s.arguments)
 
--- ---- a line where it stands
+-- ---- a line at its point of the script
 
 abbrev pub accepted_of : NodeLine → AcceptedLine
 accepted_of line.Blank = Nothing
@@ -81,17 +81,17 @@ abbrev pub seen_line : Result NodeLine LineFault → Result AcceptedLine LineFau
 seen_line (Ok l) = Ok (accepted_of l)
 seen_line (Err f) = Err f
 
--- whether the node itself was named
+-- Ok if the node itself was named, and else the fault of a line that comes before that
 abbrev pub HasSelf : Option ℕ → Result (Unit {0}) LineFault → Type 0
 HasSelf me (Ok u) = (line : Result AcceptedLine LineFault) → after_self me line ≡ line
 HasSelf me (Err f) = (line : Result AcceptedLine LineFault) → after_self me line ≡ Err f
 
--- a line for these peers: what joins the mesh is not in it yet, and finds room; what the other
--- lines name is in it
+-- a line for these peers: what joins the mesh isn't in it yet, and there is room for it; what the
+-- other lines name is in the mesh
 abbrev pub IsPrintable : PeersSeen → NodeLine → Type 0
 IsPrintable p l = IsInRange p (accepted_of l)
 
--- what is known of a line that is allowed: `self` and `peer`, besides, come before the run has
--- started
+-- what is known of a line that is allowed: it is printable, and a `self` or `peer` line comes
+-- before the run has started
 abbrev pub IsAllowed : PeersSeen → Bool → NodeLine → Type 0
 IsAllowed p started l = IsInRange p (accepted_of l) × IsInTime started (accepted_of l)

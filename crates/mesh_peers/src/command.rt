@@ -1,6 +1,6 @@
 //! The commands of a router's script.
 
-/// The first word of a line.
+/// A command, by the first word of its line.
 #[derive(Clone, Copy, PartialEq, Eq)]
 pub enum Command {
     /// `self`.

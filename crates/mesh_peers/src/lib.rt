@@ -1,7 +1,7 @@
-//! The script of a router on a socket: its peers and their ports, what a line says, why it is
-//! refused, and its canonical text.
+//! The script of a router on a socket: its peers and their ports, what a line says, why a line is
+//! refused, and a line's canonical text.
 //!
-//! Nothing here takes memory: a line is read as parts of the bytes that it is given.
+//! Nothing here takes memory: what a line says refers to parts of the line's bytes.
 #![tactic(auto)]
 
 mod command;

@@ -1,7 +1,7 @@
 //! A line of a router's script.
 use mesh_base::Addr;
 
-/// A line that is allowed where it stands. A node stands here as its index in the mesh.
+/// A line that is allowed at its point of the script. A node is given as its index in the mesh.
 #[derive(Clone, Copy)]
 pub enum NodeLine<'a> {
     /// An empty line or a remark.
@@ -16,9 +16,9 @@ pub enum NodeLine<'a> {
     Down { node: usize },
     /// A datum for `dest` is given to the node: 1 to 512 bytes.
     Give { dest: usize, body: &'a [u8] },
-    /// Up to so many datagrams are received.
+    /// Up to `count` datagrams are received.
     Poll { count: u32 },
-    /// Up to so many turns are done.
+    /// Up to `count` turns are done.
     Turn { count: u32 },
     /// The first datum that waits for `dest` is sent.
     Send { dest: usize },

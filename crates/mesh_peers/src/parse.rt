@@ -1,4 +1,4 @@
-//! Whether a line is allowed where it stands.
+//! Whether a line is allowed at its point of the script.
 ghost use Rattle.std.specs.Prelude.{◌≡◌, ◌≤◌, length, IfOk};
 ghost use Rattle.std.specs.Fmt.{decimal};
 ghost use Rattle.mesh_grammar.specs.Forms.{AreOfForm};
@@ -14,7 +14,7 @@ use mesh_base::MOST_NODES;
 use mesh_grammar::{LineFault, Span};
 use mesh_script::{Arguments, SpannedAddr, indexed};
 
-// No line but `self` and `peer` comes before the node itself is named.
+// Refuses a line, other than `self` and `peer`, that comes before the node itself is named.
 fn after_self(peers: &Peers) -> Result<(), LineFault>
     ensures { HasSelf peers.now.me result }
 {
@@ -24,7 +24,7 @@ fn after_self(peers: &Peers) -> Result<(), LineFault>
     }
 }
 
-// A line about a peer, which is not the node itself.
+// A line about a peer: the node that it names mustn't be the node itself.
 fn of_other<'a>(peers: &Peers, node: usize, line: NodeLine<'a>) -> Result<NodeLine<'a>, LineFault>
     ensures { seen_line result ≡ lines.of_other peers.now.me node (accepted_of line.entry) }
 {
@@ -34,7 +34,7 @@ fn of_other<'a>(peers: &Peers, node: usize, line: NodeLine<'a>) -> Result<NodeLi
     }
 }
 
-// The line that a command makes of its arguments, with each node by its index.
+// The line of a command with these arguments, with each node by its index.
 fn make_line<'a>(
     peers: &Peers,
     command: Command,
@@ -62,7 +62,7 @@ fn make_line<'a>(
     }
 }
 
-// The node itself, once, before the run has started.
+// A line that names the node itself: once only, and before the run has started.
 fn new_self(
     peers: &Peers,
     started: bool,
@@ -86,7 +86,7 @@ fn new_self(
     })
 }
 
-// How many digits a number has.
+// How many decimal digits a number has.
 #[tactic(auto, using(std::proofs::lemmas::Fmt::decimal_digit, std::proofs::lemmas::Fmt::decimal_step, std::proofs::lemmas::List::length_push))]
 fn digits(n: u64) -> usize
     ensures value { result ≡ length (decimal n) }
@@ -95,7 +95,7 @@ fn digits(n: u64) -> usize
     if n < 10 { 1 } else { digits(n / 10) + 1 }
 }
 
-// The bytes of a port that ends a line of `size` bytes.
+// Which bytes of a line of `size` bytes are the port that ends it.
 fn last_span(size: usize, port: u16) -> Span
     requires { length (decimal port) ≤ size }
     ensures { result ≡ lines.last_span size port }
@@ -106,8 +106,8 @@ fn last_span(size: usize, port: u16) -> Span
     }
 }
 
-// A peer with an address and a port of its own, before the run has started. The line has `size`
-// bytes.
+// A line of `size` bytes that names a peer, with an address and a port that no other node has:
+// before the run has started only.
 fn new_peer(
     peers: &Peers,
     started: bool,
@@ -136,8 +136,8 @@ fn new_peer(
     })
 }
 
-// What a line of `size` bytes says, with these peers. A shape is looked at where it stands: it is
-// too large to be moved for nothing.
+// What a line of `size` bytes says, with these peers. The shape is borrowed, since it is too large
+// to be moved without need.
 fn line_at<'a>(
     said: &Option<Shape<'a>>,
     peers: &Peers,
@@ -162,7 +162,7 @@ fn line_at<'a>(
     make_line(peers, shape.command, arguments)
 }
 
-/// What a line comes to with the peers so far: the first fault of it, or the line. `started` says
+/// What a line comes to with the peers so far: its first fault, or what it says. `started` says
 /// whether an earlier line was neither blank nor a `self` or `peer` line.
 pub fn parse_node_line<'a>(
     bytes: &'a [u8],

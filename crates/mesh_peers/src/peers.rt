@@ -7,13 +7,13 @@ use arrayvec::ArrayVec;
 use mesh_base::{Addr, MOST_NODES, Mesh};
 use std::marker::Model;
 
-/// A router's mesh: the node itself, once it was named, and its peers, each at a port of this
-/// machine. It takes no memory but its own.
+/// A router's mesh: the node itself, once it is named, and its peers, each at a port of this
+/// machine. Nothing is allocated for it.
 #[derive(Drop)]
 pub struct Peers {
     mesh: Mesh,
     me: Option<usize>,
-    // One for each node, and 0 for the node itself.
+    // One port for each node, which is 0 for the node itself.
     ports: ArrayVec<u16, MOST_NODES>,
 }
 
@@ -30,7 +30,7 @@ impl Model for Peers {
         ArePeers (record { mesh = p.mesh; me = p.me; ports = p.ports.items }) };
 }
 
-// One more node, at its index, which is answered, and its port.
+// Adds a node and its port, both at the node's index, and returns the index.
 fn join(
     mesh: &mut Mesh,
     ports: &mut ArrayVec<u16, MOST_NODES>,
@@ -49,7 +49,7 @@ fn join(
 {
     match mesh.add(a, first) {
         Ok(()) => {
-            // It has distinct addresses.
+            // This call says that the mesh has distinct addresses.
             let _nodes = mesh.len();
             let Some(index) = mesh.index_of(a) else {
                 unreachable!();
@@ -61,7 +61,7 @@ fn join(
     }
 }
 
-// Where the node itself stands once there is one more node at this index.
+// The index of the node itself once one more node is at this index.
 fn shifted(index: usize, me: Option<usize>) -> Option<usize>
     requires { IfSome me (λ i. i < MOST_NODES) }
     ensures { result ≡ option_map (peers.moved_index index) me }
@@ -72,7 +72,7 @@ fn shifted(index: usize, me: Option<usize>) -> Option<usize>
     }
 }
 
-// The first port that is this one.
+// The first index that has this port.
 fn index_of_port(ports: &[u16], port: u16) -> Option<usize>
     ensures value { result ≡ position (λ q. q == port) ports.now }
     ensures within { IfSome result (λ i. i < length ports.now) }
@@ -81,7 +81,7 @@ fn index_of_port(ports: &[u16], port: u16) -> Option<usize>
 }
 
 impl Peers {
-    /// No node.
+    /// A mesh without nodes.
     pub fn new() -> Peers
         ensures { result ≡ peers.no_peers }
     {
@@ -92,7 +92,7 @@ impl Peers {
         }
     }
 
-    /// The node itself and its peers. A peer has first number 1 in it.
+    /// The node itself and its peers. A peer's first sequence number is 1 here.
     pub fn mesh(&self) -> &Mesh
         ensures mesh { result.now ≡ self.now.mesh }
         ensures sound { peers.ArePeers self.now }
@@ -100,7 +100,7 @@ impl Peers {
         &self.mesh
     }
 
-    /// The node itself. None until it was named.
+    /// The node itself. None until it is named.
     pub fn me(&self) -> Option<usize>
         ensures value { result ≡ self.now.me }
         ensures within { IfSome result (λ i. i < length self.now.mesh) }

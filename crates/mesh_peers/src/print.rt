@@ -1,5 +1,5 @@
 //! The text in which a line is written back: each node by its address, and the node itself with its
-//! number.
+//! first sequence number.
 ghost use Rattle.std.specs.Prelude.{◌≡◌, ◌<◌, ◌≤◌, ◌+◌, ◌++◌, Bool, length, Ok};
 ghost use Rattle.mesh_base.specs.Meshes.{addr_at};
 ghost use Rattle.mesh_grammar.specs.Forms.{OneAddress};
@@ -12,7 +12,7 @@ use crate::peers::Peers;
 use mesh_base::{LINE_CAPACITY, LineBuf, Mesh};
 use mesh_script::{ADDRESS_ARGUMENT, Arguments, LONGEST_WRITTEN, push_written};
 
-// A word and the address of a node.
+// Appends a word and the address of a node.
 fn push_of_node(out: &mut LineBuf, word: &[u8], mesh: &Mesh, node: usize)
     requires node { node < length mesh.now }
     requires room { length out.old + length word.now + ADDRESS_ARGUMENT ≤ LINE_CAPACITY }
@@ -23,7 +23,7 @@ fn push_of_node(out: &mut LineBuf, word: &[u8], mesh: &Mesh, node: usize)
     push_written(out, word, &Arguments::OneAddress(mesh.at(node)));
 }
 
-/// Appends a line in canonical form, without LF. A blank line is written as none.
+/// Appends a line in canonical form, without LF. Nothing is appended for a blank line.
 #[tactic(auto, using(crate::proofs::Allowed::append_none), unfolding(crate::specs::Lines::words_of))]
 pub fn push_node_line(out: &mut LineBuf, peers: &Peers, line: &NodeLine<'_>)
     requires printable { IsPrintable peers.now line.now }
@@ -66,8 +66,8 @@ pub fn push_node_line(out: &mut LineBuf, peers: &Peers, line: &NodeLine<'_>)
     }
 }
 
-/// The line in canonical form, without LF, takes the place of what `out` held. A blank line is
-/// written as none.
+/// Replaces what `out` holds by the line in canonical form, without LF. A blank line leaves `out`
+/// empty.
 #[tactic(auto, using(crate::proofs::Allowed::again))]
 pub fn print_node_line(line: &NodeLine<'_>, peers: &Peers, out: &mut LineBuf)
     requires { IsPrintable peers.now line.now }

@@ -1,4 +1,4 @@
-//! What a line says by itself, and the faults of a line by itself.
+//! What a line says by itself, and the faults that it has by itself.
 ghost use Rattle.std.specs.Prelude.{◌≡◌, IfSome, IfNone, Some, None};
 ghost use Rattle.mesh_grammar.specs.Scripts.{row_in};
 ghost use Rattle.mesh_peers.specs.Commands as commands;
@@ -30,7 +30,7 @@ fn found(command: Command, form: Form) -> Option<Row>
     Some(Row { command, form })
 }
 
-/// The row of the script's table that a word denotes.
+/// The row of the script's table that has this word.
 fn row_of(word: &[u8]) -> Option<Row>
     ensures some { IfSome result
         (λ r. row_in commands.router_script word.now ≡ Some (row_with word.now r)) }
@@ -56,7 +56,7 @@ fn row_of(word: &[u8]) -> Option<Row>
     }
 }
 
-/// A line by itself, or its first fault. A blank line says nothing.
+/// What a line says by itself, or its first fault. A blank line says nothing.
 #[tactic(auto, unfolding(mesh_grammar::specs::Scripts::shape_by))]
 pub fn shape_of(line: &[u8]) -> Result<Option<Shape<'_>>, LineFault>
     ensures { seen_shape result ≡ commands.shape_of line.now }

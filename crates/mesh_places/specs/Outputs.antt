@@ -1,4 +1,5 @@
--- What was told of a run with places: what the sink held before, and what it holds now.
+-- What a run with places has written and answered: what the sink held before, and what it holds
+-- now.
 use Rattle.std.specs.Prelude.{ℕ, ◌≡◌, List, Option}
 use Rattle.mesh_base.specs.declared.events.Variant.TheVariants.{Base}
 use Rattle.mesh_model.specs.Walks.{Cycle}
@@ -13,8 +14,8 @@ use Rattle.mesh_grid.specs.Runs.{AreDone, run_state_at, state_within, world_afte
 
 -- ---- what is written and answered
 
--- a run of these bytes from a state on has answered, where the source has this left. After a
--- failed read what was written is the text of the lines that were read whole
+-- a run of these bytes from a state on has answered, and the source has this left. After a failed
+-- read, what was written is the text of the lines that were read whole
 abbrev pub IsOutputFrom : ℕ → RunState → List ℕ → Option (List ℕ) → Option (List ℕ)
     → Option (List ℕ) → Status → Type 0
 IsOutputFrom reach m bytes left before now s =
@@ -22,9 +23,9 @@ IsOutputFrom reach m bytes left before now s =
 
 -- ---- the run that is written
 
--- its worlds are those of its events: the last one; and the one after each line, and after each
--- event of the next. In none of them has a destination a loop; and after each line the links that
--- stand are those that are due between nodes with places
+-- its worlds are those of its events: the last one, the one after each line, and the one after each
+-- event of the next line. In none of them does a destination have a loop; and after each line the
+-- links that stand are those that are due between nodes with places
 pub record IsPlacedRun (reach : ℕ) (schedule : List ℕ) : Type 0 where
   pub worlds : let w = text_of_input reach Base schedule in
       world_of w.after.run ≡ world_after reach Base schedule w.after.run.sums.events
@@ -36,7 +37,7 @@ pub record IsPlacedRun (reach : ℕ) (schedule : List ℕ) : Type 0 where
   pub links : (i a b : ℕ) → let m = run_state_at reach Base schedule i in
       are_linked (world_of m.run).links a b ≡ is_due reach m.places a b
 
--- what was told of the schedule that a source had, which is that of such a run
+-- such a run of the schedule that a source had has written and answered this
 abbrev pub IsRun : ℕ → List ℕ → Option (List ℕ) → Option (List ℕ) → Option (List ℕ) → Status
     → Type 0
 IsRun reach schedule left before now s =

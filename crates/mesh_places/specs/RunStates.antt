@@ -1,4 +1,4 @@
--- A run with places between two lines, as the program has it, and what was told of one line.
+-- A run with places between two lines, as the program has it, and what is written for one line.
 use Rattle.std.specs.Prelude.{ℕ, ◌≡◌, ◌≤◌, ◌<◌, ◌≢◌, ◌+◌, ◌*◌, true, if◌then◌else◌, List, Option, Result, OnOk, length, codes, ⊤}
 use Rattle.std.specs.List.{flat_map}
 use Rattle.mesh_base.specs.declared.limits.TheConstants.{MOST_EVENTS}
@@ -17,21 +17,21 @@ use Rattle.mesh_places.specs.declared.placed.Placed.{Placed}
 abbrev pub run_state_of : Placed → RunState
 run_state_of p = record { run = p.point; places = p.places }
 
--- the run in another state
+-- this run, moved to another state
 abbrev pub moved : Placed → RunState → Placed
 moved p n = record p { point = n.run; places = n.places }
 
--- changes, each on a line
+-- changes, each on a line of its own
 abbrev pub change_lines : Nodes → List Event → List ℕ
 change_lines mesh es = flat_map (change_line mesh) es
 
--- what stands below a line about a place: the changes that follow, or `idle`
+-- what is written below a line about a place: the changes that follow, or `idle`
 abbrev pub below : ℕ → RunState → Placing → List ℕ
 below reach m new =
     if may_come m.places new then change_lines m.run.mesh (changes reach m new) else line
     (codes "  idle")
 
--- a link of two nodes of the mesh comes or goes
+-- a link between two nodes of the mesh is made or cut
 abbrev pub IsChange : ℕ → Event → Type 0
 IsChange size (Link a b) = (a < size) × (b < size) × (a ≢ b)
 IsChange size (Cut a b) = (a < size) × (b < size) × (a ≢ b)
@@ -43,7 +43,8 @@ IsWant stop.WriteFault = ⊤
 IsWant stop.NoMemory = ⊤
 IsWant others = ⊥
 
--- what was told of a line that has led the run from p to q, of which the state alone has changed
+-- what was written and answered for a line that led the run from p to q, with only its state
+-- changed
 pub record IsRunOfLine (p q : Placed) (bytes : List ℕ) (before now : Option (List ℕ))
     (result : Result (Unit {0}) Stop) : Type 0 where
   pub comes : IsLineRun true p.point

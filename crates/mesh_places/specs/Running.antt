@@ -1,4 +1,4 @@
--- A run with places as a script: what its lines and its end make of its state.
+-- A run with places as a script: what each line and the end write, and the states they lead to.
 use Rattle.mesh_shell.specs.Fold.{Fold}
 use Rattle.mesh_text.specs.declared.verdict.Verdict.{Verdict}
 use Rattle.mesh_run.specs.Running.{outcome_as}
@@ -6,7 +6,7 @@ use Rattle.mesh_grid.specs.Text.{placed_run}
 use Rattle.mesh_places.specs.RunStates.{run_state_of, moved}
 use Rattle.mesh_places.specs.declared.placed.Placed.{Placed}
 
--- what the run with places of this reach makes of the state
+-- the run with places of this reach, as a script
 abbrev pub running : Fold Placed Verdict
 running = record {
   head = λ p. (placed_run p.reach).head (run_state_of p);

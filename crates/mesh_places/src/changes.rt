@@ -1,4 +1,4 @@
-//! The changes of links that follow where a node comes to a place.
+//! The changes of links that follow when a node comes to a place.
 ghost use Rattle.std.specs.Prelude.{◌≡◌, ◌≤◌, ◌<◌, length, OnOk, IfErr};
 ghost use Rattle.mesh_base.specs.Bounds.{most_steps, most_steps_before_line};
 ghost use Rattle.mesh_io.specs.Cause.{HasCause};
@@ -30,7 +30,7 @@ fn range_of(at: &Point<World>, node: usize) -> NodeSet
 {
     match at.world() {
         Some(world) => {
-            // A world is sound: its nodes are those of its mesh.
+            // For the proof: a world is sound, so its nodes are those of its mesh.
             let _mesh = world.mesh();
             world.radio().range(node)
         }
@@ -38,7 +38,7 @@ fn range_of(at: &Point<World>, node: usize) -> NodeSet
     }
 }
 
-// A change, on a line below that of the node.
+// Writes a change, on a line below that of the node.
 fn put_change<O: Sink>(at: &mut Point<World>, event: Event<'_>, out: &mut O) -> Result<(), PutFault>
     requires { IsChange (length at.old.mesh) (event_of event) }
     ensures text { Puts (O.held out.old) (O.held out.new)
@@ -54,7 +54,7 @@ fn put_change<O: Sink>(at: &mut Point<World>, event: Event<'_>, out: &mut O) -> 
     put_all(out, line.as_slice())
 }
 
-// Does one change, in the opening world where there is none yet. A link that comes or goes fills no
+// Does one change, in the opening world if there is none yet. Making or cutting a link fills no
 // counter.
 fn step_change(alloc: Global, at: &mut Point<World>, event: &Event<'_>) -> Result<(), NoMemory>
     requires change { IsChange (length at.old.mesh) (event_of event.now) }
@@ -70,8 +70,8 @@ fn step_change(alloc: Global, at: &mut Point<World>, event: &Event<'_>) -> Resul
     }
 }
 
-// Does the change with node `y` that follows where a node comes to a place, if there is one, and
-// writes it. `near` are the nodes that the node is linked to.
+// Does the change with node `y` that follows when a node comes to a place, if there is one, and
+// writes it. `near` are the nodes that are linked to the node that comes.
 fn do_change<O: Sink>(
     at: &mut Placed,
     near: &NodeSet,
@@ -100,7 +100,7 @@ fn do_change<O: Sink>(
     Ok(())
 }
 
-// Does the changes that follow where a node comes to a place, and writes each below its line.
+// Does the changes that follow when a node comes to a place, and writes each below the node's line.
 fn do_changes<O: Sink>(at: &mut Placed, new: &Placing, out: &mut O) -> Result<(), Stop<'static>>
     requires node { new.now.node < length at.old.point.mesh }
     requires nodes { length at.old.point.mesh ≤ MOST_NODES }
@@ -122,7 +122,7 @@ fn do_changes<O: Sink>(at: &mut Placed, new: &Placing, out: &mut O) -> Result<()
 }
 
 /// Does what follows from a line about a place, and writes it below the line: the changes, or
-/// `idle` where the node may not come there.
+/// `idle` if the node may not come there.
 pub fn do_coming<O: Sink>(at: &mut Placed, new: &Placing, out: &mut O) -> Result<(), Stop<'static>>
     requires node { new.now.node < length at.old.point.mesh }
     requires nodes { length at.old.point.mesh ≤ MOST_NODES }

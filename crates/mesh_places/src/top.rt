@@ -38,7 +38,7 @@ fn run<I: Source, O: Sink>(alloc: Global, reach: u32, input: &mut I, out: &mut O
 /// Runs the schedule with places that the source gives, in a world of its own where all nodes run
 /// the protocol as AWN has it, and writes its text to the sink, line by line. The one word is the
 /// reach, a number from 1 to 1000000: two nodes are linked exactly where both have places that are
-/// at most so far apart.
+/// at most this far apart.
 ///
 /// What is written is gathered in a buffer of 65536 bytes, and handed on when that is full, before
 /// each read of the source, and at the end, unless a write has failed.
@@ -48,14 +48,14 @@ pub fn places<I: Source, O: Sink>(
     input: &mut I,
     out: &mut O,
 ) -> Status
-    // The words aren't one reach: nothing is read or written.
+    // If the words aren't one word that denotes a reach, nothing is read or written.
     ensures usage_exactly_for_other_words { (result ≡ Status.Usage)
         ↔ (reach_of (map (λ w. w.now) words.now) ≡ None) }
     ensures untouched_by_other_words { result ≡ Status.Usage
         → (input.new ≡ input.old) × (out.new ≡ out.old) }
 
-    // What is written is the text of the input, and the answer its verdict. After a failed write,
-    // or want of memory, it is a prefix of that text; after a failed read it is the text of the
+    // What is written is the text of the input, and the answer is its verdict. After a failed write
+    // or a lack of memory, a prefix of that text is written; after a failed read, the text of the
     // lines that were read whole. After each line of that run, and after each event of the next,
     // the world is the one to which its events so far lead, and in no such world does a destination
     // have a loop; and after each line the links that stand are those that follow from the places.
@@ -63,17 +63,17 @@ pub fn places<I: Source, O: Sink>(
         IfSome (I.left input.old) (λ bytes. IsRun reach bytes
         (I.left input.new) (O.held out.old) (O.held out.new) result)) }
 
-    // Done only where the input was read to its end.
+    // Done comes only if the input was read to its end.
     ensures done_at_the_end { result ≡ Status.Done → IsAtEnd (I.left input.new) }
 
-    // A fault is answered only where the source or the sink has failed in this call, and no other
-    // answer is given where one of them has.
+    // A fault is answered only if the source or the sink has failed in this call, and no other
+    // answer comes if one of them has.
     ensures cause_of_read_fault { HasSourceCause (I.faults input.old) (I.faults input.new) result }
     ensures cause_of_write_fault { HasStatusCause Status.WriteFault
         (O.faults out.old) (O.faults out.new) result }
 
-    // Where every line is allowed and nothing has failed, the whole text is written, unless memory
-    // runs out.
+    // If every line is allowed, no event is refused, and neither the source nor the sink has
+    // failed, the whole text is written, unless memory runs out.
     ensures complete { IfSome (reach_of (map (λ w. w.now) words.now)) (λ reach.
         IfSome (I.left input.old) (λ bytes. (text_of_input reach Base bytes).verdict ≡ Finished
         → (Rose (I.faults input.old) (I.faults input.new) → ⊥)

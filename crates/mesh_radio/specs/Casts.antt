@@ -11,7 +11,7 @@ use Rattle.mesh_radio.specs.Kept.{copies_in}
 use Rattle.mesh_radio.specs.declared.casts.Cast.{Cast}
 use Rattle.mesh_radio.specs.declared.casts.Least.{Least}
 
--- a cast, at the id of its first copy
+-- a cast, with the id of its first copy
 abbrev pub Entry : Type 0
 Entry = ℕ × Cast
 
@@ -19,11 +19,11 @@ Entry = ℕ × Cast
 abbrev pub size : Cast → ℕ
 size c = length (member_list c.to)
 
--- how many copies of the cast are before that to this receiver
+-- how many copies of the cast are before the one to this receiver
 abbrev pub copies_before : Cast → ℕ → ℕ
 copies_before c to = rank c.to to
 
--- the copy of that id to that receiver, where it still flies
+-- the copy of that id to that receiver, if it still flies
 abbrev pub slot : Cast → ℕ → ℕ → Option Flying
 slot c id to =
     if contains c.left to then Some (record { id = id; from = c.from; to = to; bytes = c.bytes })
@@ -44,13 +44,13 @@ copies_of (e ∷ es) = copies_in (slots_at e) ++ copies_of es
 
 -- ---- what always holds
 
--- each cast made a copy, and its ids are after those of the casts before it; they go from `low` on,
--- and are below `next`
+-- each cast made a copy, and its ids are after those of the casts before it; all ids are at least
+-- `low`, and below `next`
 abbrev pub AreRising : ℕ → List Entry → ℕ → Type 0
 AreRising low [] next = low ≤ next
 AreRising low (e ∷ es) next = (low ≤ e.0) × (0 < size e.1) × AreRising (e.0 + size e.1) es next
 
--- a copy flies to none but the receivers of its cast
+-- copies of a cast fly only to its receivers
 abbrev pub AreLeft : Cast → Type 0
 AreLeft c = (q : ℕ) → contains c.left q ≡ true → contains c.to q ≡ true
 
@@ -60,7 +60,7 @@ pub record AreCasts (es : List Entry) (next : ℕ) : Type 0 where
   pub few : next < 2 ^ 64
   pub lefts : AllByRecursion (λ e. AreLeft e.1) es
 
--- casts, of `count` copies in flight in all, `of_data` of them of data
+-- casts with `count` copies in flight in all, `of_data` of them of data
 pub record AreKept (es : List Entry) (next count of_data : ℕ) : Type 0 where
   pub casts : AreCasts es next
   pub counted : count ≡ length (copies_of es)
@@ -73,7 +73,7 @@ abbrev pub AreSorted : List ℕ → Type 0
 AreSorted firsts =
     (i j : ℕ) → i ≤ j → j < length firsts → slice_index firsts i ≤ slice_index firsts j
 
--- the first k of these numbers are at most that one, and the others are greater
+-- the first k of these numbers are at most `id`, and the others are greater
 pub record IsSplit (firsts : List ℕ) (id k : ℕ) : Type 0 where
   pub within : k ≤ length firsts
   pub below : (j : ℕ) → j < k → slice_index firsts j ≤ id
@@ -100,7 +100,7 @@ copy_of (Some e) id = slot_for e.1 id (slice_get (member_list (e.1).to) (id - e.
 abbrev pub HasNone : List Entry → ℕ → Type 0
 HasNone es id = copy_of (entry_of es id) id ≡ None
 
--- the copy of that id is that to this receiver of the cast at this index
+-- the copy of that id is in flight: it is the one to this receiver of the cast at this index
 pub record IsFound (es : List Entry) (id index to : ℕ) : Type 0 where
   pub entry : Entry
   pub at : slice_get es index ≡ Some entry
@@ -119,15 +119,15 @@ HasNoneFrom es id = (q : ℕ) → id ≤ q → HasNone es q
 abbrev pub IsBefore : List Entry → ℕ → ℕ → Type 0
 IsBefore es index q = IfSome (slice_get es index) (λ e. q < e.0)
 
--- the cast at this index is not before that id
+-- the cast at this index, if there is one, is not before that id
 abbrev pub IsFrom : List Entry → ℕ → ℕ → Type 0
 IsFrom es index id = IfSome (slice_get es index) (λ e. id ≤ e.0)
 
--- no copy flies from that id on, up to the cast at this index
+-- no copy in flight has an id from that one on and before the cast at this index
 abbrev pub NoneUpTo : List Entry → ℕ → ℕ → Type 0
 NoneUpTo es id index = (q : ℕ) → id ≤ q → IsBefore es index q → HasNone es q
 
--- the copy to this receiver of the cast at this index is the first from that id on
+-- the copy to this receiver of the cast at this index is the first in flight from that id on
 pub record IsNext (es : List Entry) (id index to : ℕ) : Type 0 where
   pub entry : Entry
   pub at : slice_get es index ≡ Some entry
@@ -148,7 +148,7 @@ abbrev pub IsLeastOf : List Entry → Option Least → Type 0
 IsLeastOf es None = copies_of es ≡ []
 IsLeastOf es (Some l) = IsLeast es l.spot.index l.id l.spot.to
 
--- so many casts at the front have no copy in flight
+-- the first `gone` casts have no copy in flight
 pub record AreGone (es : List Entry) (gone : ℕ) : Type 0 where
   pub within : gone ≤ length es
   pub none : NoneUpTo es 0 gone
@@ -167,8 +167,8 @@ without_packet c = record c { bytes = [] }
 abbrev pub has_left : Cast → Bool
 has_left c = is_some (slice_get (member_list c.left) 0)
 
--- packets and casts may go of which no copy flies: the copies in flight are the same, and the casts
--- that stay, in their order
+-- packets and casts without a copy in flight may be removed: the copies in flight are the same, and
+-- the casts that stay keep their order
 pub record IsTidied (before now : List Entry) : Type 0 where
   pub same : copies_of now ≡ copies_of before
   pub rising : (low next : ℕ) → AreRising low before next → AreRising low now next
@@ -176,12 +176,12 @@ pub record IsTidied (before now : List Entry) : Type 0 where
 
 -- ---- ids that are free again
 
--- the set that is left of this one has its first members, as many as `count` at most
+-- `front` has the first members of `whole`, at most `count` of them
 pub record IsFront (whole : NodeIds) (count : ℕ) (front : NodeIds) : Type 0 where
   pub list : member_list front ≡ take count (member_list whole)
   pub same : (q : ℕ) → (rank whole q < count) ⊎ (256 ≤ q) → contains front q ≡ contains whole q
 
--- of the cast with that first id there stay only the copies below `id`, if there are such
+-- the cast with that first id keeps only its copies below `id`, and stays if there are any
 pub record IsCut (id first : ℕ) (c now : Cast) (stays : Bool) : Type 0 where
   pub stays_below : stays ≡ nat_lt first id
   pub cut : OnTrue stays ((now ≡ record c { to = now.to }) × IsFront c.to (id - first) now.to)

@@ -15,11 +15,11 @@ held_seen held = record { id = held.id; from = held.from; to = held.to; bytes = 
 abbrev pub find_copy : List Flying → ℕ → Option Flying
 find_copy cs id = find_by (λ c. c.id) cs id
 
--- the packet of the copy of that id, if there is one, has at most so many bytes
+-- the packet of the copy of that id, if there is one, has at most this many bytes
 abbrev pub IsCopyWithin : List Flying → ℕ → ℕ → Type 0
 IsCopyWithin cs id most = (c : Flying) → find_copy cs id ≡ Some c → length c.bytes ≤ most
 
--- the copies but that of that id
+-- the copies except the one of that id
 unfoldable pub without : List Flying → ℕ → List Flying
 without cs id = without_by (λ c. c.id) cs id
 
@@ -36,15 +36,15 @@ copies_to tos id from bytes =
 abbrev pub AreNumbered : ℕ → List Flying → ℕ → Type 0
 AreNumbered low cs next = AreNumberedBy (λ c. c.id) low cs next
 
--- the ids are below that one
+-- the copies' ids are below that one
 abbrev pub AreBefore : ℕ → List Flying → Type 0
 AreBefore id cs = AllByRecursion (λ c. c.id < id) cs
 
--- a copy is between two nodes, each below the number of nodes
+-- a copy is between two different nodes, each below the number of nodes
 abbrev pub IsBetween : ℕ → Flying → Type 0
 IsBetween size c = (c.from < size) × (c.to < size) × (c.from ≢ c.to)
 
--- the bytes of the longest packet
+-- how many bytes the longest packet has
 abbrev pub longest_packet : ℕ
 longest_packet = LONGEST_PACKET
 

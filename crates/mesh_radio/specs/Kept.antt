@@ -19,11 +19,11 @@ pub record Graph : Type 0 where
   pub size : ℕ
   pub pairs : Pairs
 
--- the neighbours of a; none where there is no such node
+-- the neighbours of a; none if there is no such node
 abbrev pub row : List NodeIds → ℕ → NodeIds
 row rows a = unwrap_or (slice_get rows a) sets.empty
 
--- the pairs (b, a) for members b of s below n, beside other pairs
+-- the pairs (b, a) for members b of s below n, besides other pairs
 unfoldable pub with_row : ℕ → NodeIds → ℕ → Pairs → Pairs
 with_row a s zero pairs = pairs
 with_row a s (suc n) pairs =
@@ -37,7 +37,7 @@ pairs_below (suc a) rows = with_row a (row rows a) a (pairs_below a rows)
 abbrev pub graph_of : List NodeIds → Graph
 graph_of rows = record { size = length rows; pairs = pairs_below (length rows) rows }
 
--- neighbours are so both ways, and no node is its own
+-- nodes are neighbours both ways, no node is its own neighbour, and there are at most 200
 pub record AreMutual (rows : List NodeIds) : Type 0 where
   pub few : length rows ≤ MOST_NODES
   pub both_ways : (a b : ℕ) → sets.contains (row rows a) b ≡ sets.contains (row rows b) a
@@ -45,7 +45,7 @@ pub record AreMutual (rows : List NodeIds) : Type 0 where
 
 -- ---- copies
 
--- the copies, the id of the next, and memory: for how many more, of how many bytes each
+-- the copies, the id of the next, and memory: for how many more copies, of how many bytes each
 pub record Flights : Type 0 where
   pub flying : List Flying
   pub next_copy : ℕ
@@ -85,7 +85,7 @@ with_second a (Some c) = record a {
   room = a.room - 1;
 }
 
--- room for this many copies more, of this many bytes each; what room there is stays
+-- room for this many more copies, of this many bytes each; room that is there is kept
 abbrev pub with_room : Flights → ℕ → ℕ → Flights
 with_room a copies bytes = record a { room = max a.room copies; most = max a.most bytes }
 
@@ -96,7 +96,7 @@ pub record Memory : Type 0 where
   pub room : ℕ
   pub most : ℕ
 
--- memory for this many copies, of this many bytes each; what there is stays
+-- memory for this many copies, of this many bytes each; memory that is there is kept
 abbrev pub more_memory : Memory → ℕ → ℕ → Memory
 more_memory m copies bytes = record { room = max m.room copies; most = max m.most bytes }
 
@@ -117,8 +117,8 @@ radio_of links ever a = record {
   most = a.most;
 }
 
--- both graphs are of the same nodes, at most 200, and a link that stands has stood; copies are
--- between these, and none has more bytes than a packet can
+-- both graphs are of the same nodes, at most 200, and a link that stands is among those that ever
+-- stood; copies are between these nodes, and none has more bytes than a packet can
 pub record IsRadio (links ever : Graph) (a : Flights) : Type 0 where
   pub few : links.size ≤ MOST_NODES
   pub same : ever.size ≡ links.size
@@ -126,7 +126,7 @@ pub record IsRadio (links ever : Graph) (a : Flights) : Type 0 where
   pub between : AllByRecursion (IsBetween links.size) a.flying
   pub long : AllByRecursion IsPacketLong a.flying
 
--- ---- codes, so that types of the code can be seen as these
+-- ---- codes, so that types of the code can be viewed as these
 
 abbrev pub graph_code : Coded Graph
 graph_code =

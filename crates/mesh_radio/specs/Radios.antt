@@ -9,8 +9,8 @@ use Rattle.mesh_model.specs.InMesh.{AreLinks}
 use Rattle.mesh_radio.specs.Copies.{without, copies_to}
 
 -- the number of nodes; the links that stand, and those that ever stood, each with the smaller node
--- first; the copies in flight by rising id; the id of the next copy; and memory: for how many
--- copies more, of how many bytes each
+-- first; the copies in flight by rising id; the id of the next copy; and memory: for how many more
+-- copies, of how many bytes each
 pub record RadioState : Type 0 where
   pub size : ℕ
   pub links : Pairs
@@ -36,7 +36,7 @@ opening size = record {
 abbrev pub most_copies_at_first : ℕ
 most_copies_at_first = 2 ^ 60
 
--- room for this many copies more, of this many bytes each; what room there is stays
+-- room for this many more copies, of this many bytes each; room that is there is kept
 abbrev pub with_more_room : RadioState → ℕ → ℕ → RadioState
 with_more_room r copies bytes = record r { room = max r.room copies; most = max r.most bytes }
 
@@ -81,7 +81,7 @@ with_double r (Some c) = record r {
 }
 
 -- the links of a mesh of this size, those that stand and those that ever stood: each is between two
--- of its nodes, and one that stands has stood
+-- of its nodes, and one that stands is among those that ever stood
 pub record AreLinksOf (size : ℕ) (links ever : Pairs) : Type 0 where
   pub standing : AreLinks size links
   pub earlier : AreLinks size ever

@@ -77,7 +77,7 @@ impl Adjacency {
     }
 }
 
-// As many empty sets as there are nodes.
+// One empty set for each node.
 fn no_neighbours(alloc: Global, nodes: usize) -> Result<Vec<NodeSet>, NoMemory>
     ensures { IfOk result (λ rows. rows.items ≡ replicate nodes sets.empty) }
 {

@@ -1,4 +1,4 @@
-//! Casts by the ids of their first copies: what is found among them, and how they change.
+//! Casts by the ids of their first copies: how they are searched, and how they change.
 ghost use Rattle.std.specs.Prelude.{◌≡◌, ℕ, ◌<◌, ◌≤◌, ◌+◌, ◌-◌, ◌^◌, ◌++◌, ◌∷◌, [], length, slice_get, option_map, Some, IfSome, IfNone};
 ghost use Rattle.std.specs.Map.{keys_of};
 ghost use Rattle.indexmap.specs.IndexMap.{spare, values, with_value_at};
@@ -14,8 +14,8 @@ use indexmap::IndexMap;
 use mesh_base::NodeSet;
 use std::hash::BuildHasherDefault;
 
-/// A packet that was cast, to whom, and those of them to whom its copy still flies. Its copies have
-/// the ids from the cast's first on, by rising receiver.
+/// A packet that was cast: its sender, its receivers (`to`), and those of them whose copies are
+/// still in flight (`left`). Its copies have the ids from the cast's first on, by rising receiver.
 #[derive(Drop)]
 pub struct Cast {
     pub to: NodeSet,
@@ -27,21 +27,21 @@ pub struct Cast {
 /// Casts by the ids of their first copies, which rise.
 pub type Casts = IndexMap<u64, Cast, BuildHasherDefault<NumberHasher>>;
 
-/// Where a copy stands: the index of its cast, and its receiver.
+/// Where a copy is kept: the index of its cast, and its receiver.
 #[derive(Clone, Copy)]
 pub struct Spot {
     pub index: usize,
     pub to: usize,
 }
 
-/// The least copy in flight: its id, and where it stands.
+/// The least copy in flight: its id, and where it is kept.
 #[derive(Clone, Copy)]
 pub struct Least {
     pub id: u64,
     pub spot: Spot,
 }
 
-// How many members are at most i, so many of them below it.
+// How many members are at most i, given that `below` members are below i.
 #[tactic(auto, using(crate::proofs::Receivers::rank_after_member, crate::proofs::Receivers::rank_after_other))]
 fn count_through(to: &NodeSet, i: usize, below: usize) -> usize
     requires below { below ≡ rank to.now i }
@@ -51,8 +51,8 @@ fn count_through(to: &NodeSet, i: usize, below: usize) -> usize
     if to.has(i) { below + 1 } else { below }
 }
 
-// The member of this rank. Where all nodes below it are members, or all but one, as in a mesh
-// where all are linked, it is found at once.
+// The member of this rank. No search is needed if all numbers below the member are members too, or
+// all but one, as in a mesh whose nodes are all linked.
 #[tactic(auto, using(crate::proofs::Receivers::member_of_rank))]
 fn receiver(to: &NodeSet, rank: usize) -> Option<usize>
     ensures value { result ≡ slice_get (member_list to.now) rank }
@@ -70,8 +70,8 @@ fn receiver(to: &NodeSet, rank: usize) -> Option<usize>
     to.nth(rank)
 }
 
-// Where the copy of this id stands: the index of its cast is sought by halves, and its receiver by
-// its rank. The hint makes no difference but to how long that takes.
+// Where the copy of this id is kept: the index of its cast is found by binary search, and its
+// receiver by its rank. The hint affects only how long this takes.
 fn find_near(casts: &Casts, id: u64, hint: usize) -> Option<Spot>
     requires { (next : ℕ) × AreCasts casts.now.entries next }
     ensures some { IfSome result (λ s. IsFound casts.now.entries id s.index s.to) }
@@ -93,7 +93,7 @@ fn find_near(casts: &Casts, id: u64, hint: usize) -> Option<Spot>
     None
 }
 
-/// Where the copy of this id stands. The least copy is found at once.
+/// Where the copy of this id is kept. The least copy is found without a search.
 #[inline(always)]
 pub fn find(casts: &Casts, least: &Option<Least>, id: u64) -> Option<Spot>
     requires casts { (next : ℕ) × AreCasts casts.now.entries next }
@@ -108,13 +108,13 @@ pub fn find(casts: &Casts, least: &Option<Least>, id: u64) -> Option<Spot>
     if id == least.id {
         return Some(least.spot);
     }
-    // Handed on whole, the answer of the call would go through memory in each case.
+    // Returned as it is, the result of the call would go through memory in each case.
     let spot = find_near(casts, id, least.spot.index)?;
     Some(spot)
 }
 
-// The index of the cast of this id. The hint makes no difference but to how long that takes. It is
-// a call of its own, since the least copy, which most deliveries take, needs none of it.
+// The index of the cast of this id. The hint affects only how long this takes. It is a call of its
+// own, since the least copy, which most deliveries take, doesn't need it.
 #[inline(never)]
 fn cast_index(casts: &Casts, id: u64, hint: usize) -> usize
     requires { (next : ℕ) × AreCasts casts.now.entries next }
@@ -125,8 +125,8 @@ fn cast_index(casts: &Casts, id: u64, hint: usize) -> usize
     if after == 0 { 0 } else { after - 1 }
 }
 
-/// Where the copy of this id stands, which is known to go to this receiver. The hint makes no
-/// difference but to how long that takes.
+/// Where the copy of this id is kept, which is known to go to this receiver. The hint affects only
+/// how long this takes.
 #[inline(always)]
 pub fn find_again(
     casts: &Casts,
@@ -153,8 +153,8 @@ pub fn find_again(
     Some(Spot { index, to })
 }
 
-// The receiver of the first copy from this id on of the cast before this index, which is the id's
-// own.
+// The receiver of the first copy in flight, from this id on, of the cast right before index
+// `after`. That cast is the last one whose first id is no later than this id.
 fn rest_of(casts: &Casts, after: usize, id: u64) -> Option<usize>
     requires casts { (next : ℕ) × AreCasts casts.now.entries next }
     requires split { IsSplit (keys_of casts.now.entries) id after }
@@ -169,7 +169,7 @@ fn rest_of(casts: &Casts, after: usize, id: u64) -> Option<usize>
     cast.left.next_from(start)
 }
 
-// Where the first copy stands of the casts from this index on.
+// Where the first copy in flight of the casts from this index on is kept.
 fn walk(casts: &Casts, index: usize, id: u64) -> Option<Spot>
     requires casts { (next : ℕ) × AreCasts casts.now.entries next }
     requires none { NoneUpTo casts.now.entries id index }
@@ -189,7 +189,7 @@ fn walk(casts: &Casts, index: usize, id: u64) -> Option<Spot>
     None
 }
 
-/// Where the first copy from this id on stands. The hint makes no difference but to how long that
+/// Where the first copy in flight from this id on is kept. The hint affects only how long this
 /// takes.
 pub fn find_next(casts: &Casts, id: u64, hint: usize) -> Option<Spot>
     requires { (next : ℕ) × AreCasts casts.now.entries next }
@@ -206,7 +206,7 @@ pub fn find_next(casts: &Casts, id: u64, hint: usize) -> Option<Spot>
     walk(casts, index, id)
 }
 
-/// The least copy, where so many casts at the front have none in flight.
+/// The least copy in flight: the first `gone` casts are known to have none.
 pub fn least_from(casts: &Casts, gone: usize) -> Option<Least>
     requires casts { (next : ℕ) × AreCasts casts.now.entries next }
     requires gone { AreGone casts.now.entries gone }
@@ -220,7 +220,7 @@ pub fn least_from(casts: &Casts, gone: usize) -> Option<Least>
     })
 }
 
-// The least copy: this one, or, if none was known, the least after so many casts at the front.
+// The least copy: this one or, if none was known, the least after the first `gone` casts.
 fn least_or(casts: &Casts, least: Option<Least>, gone: usize) -> Option<Least>
     requires casts { (next : ℕ) × AreCasts casts.now.entries next }
     requires least { IfSome least (λ l. IsLeast casts.now.entries l.spot.index l.id l.spot.to) }
@@ -233,8 +233,8 @@ fn least_or(casts: &Casts, least: Option<Least>, gone: usize) -> Option<Least>
     }
 }
 
-/// A cast joins, at the next id: its copies fly. The answer is the least copy then, where this one
-/// was.
+/// Adds a cast, at the next id: its copies fly. The answer is the least copy after that; `least` is
+/// the least copy before.
 #[inline(always)]
 pub fn launch(casts: &mut Casts, least: Option<Least>, next: u64, cast: Cast) -> Option<Least>
     requires casts { AreCasts casts.old.entries next }
@@ -258,7 +258,8 @@ pub fn launch(casts: &mut Casts, least: Option<Least>, next: u64, cast: Cast) ->
     least_or(casts, least, index)
 }
 
-/// How many casts at the front have no copy in flight.
+/// The index of the least copy's cast, so that the casts before it have no copy in flight. 0 if
+/// there is no least copy.
 #[inline(always)]
 pub fn front_of(least: &Option<Least>) -> usize
     ensures some { IfSome least.now (λ l. result ≡ l.spot.index) }
@@ -270,7 +271,7 @@ pub fn front_of(least: &Option<Least>) -> usize
     }
 }
 
-/// The copy to this receiver of the cast at this index flies no more.
+/// Removes the copy to this receiver of the cast at this index from those in flight.
 #[inline(always)]
 pub fn remove_at(casts: &mut Casts, index: usize, to: usize)
     requires { to < 256 }
@@ -282,8 +283,8 @@ pub fn remove_at(casts: &mut Casts, index: usize, to: usize)
     }
 }
 
-/// The packet of the cast at this index once more: shared with it, or, where memory for that isn't
-/// there, in the memory of a room.
+/// The packet of the cast at this index once more: shared with the cast or, if there is no memory
+/// for that, in the memory of a room.
 pub fn double_packet(casts: &mut Casts, index: usize, reserve: &mut Reserve) -> Shared
     requires room { 1 ≤ reserve.old.room }
     requires fits { (c : Cast) → slice_get (values casts.old) index ≡ Some c

@@ -1,4 +1,4 @@
-//! What becomes of casts that are done with.
+//! How casts without a copy in flight are removed.
 ghost use Rattle.std.specs.Prelude.{◌≡◌, ℕ, ◌≤◌, filter, slice_get, Some, false};
 ghost use Rattle.std.specs.Bool.{OnTrue};
 ghost use Rattle.indexmap.specs.IndexMap.{spare, with_value_at};
@@ -7,8 +7,8 @@ ghost use Rattle.mesh_radio.specs.Casts.{Entry, AreRising, AreGone, IsTidied, ha
 use crate::casts::{Cast, Casts};
 use crate::shared::Shared;
 
-/// So few casts that are done with are left to lie: to sweep them would cost more than they take
-/// up.
+/// Fewer casts without a copy in flight than this are left where they are: to sweep them would cost
+/// more than the memory that they take up.
 const LYING: usize = 64;
 
 // Whether no copy of the cast at this index flies.
@@ -22,7 +22,7 @@ fn is_done(casts: &Casts, index: usize) -> bool
     }
 }
 
-// The packet of the cast at this index goes. It is a call of its own, since the memory of its
+// Drops the packet of the cast at this index. It is a call of its own: inlined, the memory of its
 // locals would be cleared at each take.
 #[inline(never)]
 fn drop_packet(casts: &mut Casts, index: usize)
@@ -34,8 +34,8 @@ fn drop_packet(casts: &mut Casts, index: usize)
     }
 }
 
-// The casts go of which no copy flies. It is a call of its own, since the memory of its locals
-// would be cleared at each take.
+// Removes the casts without a copy in flight. It is a call of its own: inlined, the memory of its
+// locals would be cleared at each take.
 #[cold]
 #[inline(never)]
 fn sweep(casts: &mut Casts)
@@ -49,10 +49,10 @@ fn sweep(casts: &mut Casts)
     );
 }
 
-/// What a take of a copy of the cast at this index leaves to do, where so many casts at the front
-/// have no copy in flight. With the last copy of a cast its packet goes, and once more casts are
-/// done with than are not, those go too, wherever they stand: about `done` of them lie there. The
-/// answer is how many casts at the front have no copy in flight then.
+/// Clears up after a copy of the cast at this index was removed, when the first `gone` casts have
+/// no copy in flight. With the last copy of a cast its packet is dropped. About `done` casts have
+/// no copy in flight: once they are at least `LYING`, and more than half of all casts, they are
+/// removed too. The first casts, as many as the answer says, have no copy in flight then.
 #[inline(always)]
 pub fn clear(casts: &mut Casts, index: usize, gone: usize, done: &mut usize) -> usize
     requires rising { (next : ℕ) × AreRising 1 casts.old.entries next }

@@ -20,9 +20,8 @@ use std::alloc::Global;
 use std::hash::BuildHasherDefault;
 use std::marker::Model;
 
-/// A copy in flight, and the index at which it was found, where it is looked for first when it is
-/// removed. Its packet, which copies of one cast share, is lent as it is kept, so that it can be
-/// copied whole.
+/// A copy in flight, with the index at which it was found: a removal looks there first. Its packet,
+/// which copies of one cast share, is lent as it is kept, so that it can be copied whole.
 #[derive(Clone, Copy)]
 pub struct Held<'a> {
     pub id: u64,
@@ -32,15 +31,15 @@ pub struct Held<'a> {
     pub bytes: &'a Bytes,
 }
 
-/// The copies in flight, as casts: a cast stands at the id of its first copy, and its copies have
-/// that id and the next ones, by rising receiver. A copy is found by the index of its cast, a
-/// search by halves, and by its rank among the receivers; it is taken by one bit. The least copy is
-/// kept apart.
+/// The copies in flight, as casts: a cast is kept by the id of its first copy, and its copies have
+/// that id and the next ones, by rising receiver. A copy is found by a binary search for its cast
+/// and by its rank among the receivers; clearing one bit removes it. The least copy is kept
+/// separately.
 #[derive(Drop)]
 pub struct Copies {
     casts: Casts,
     least: Option<Least>,
-    // About so many casts have no copy in flight. It only says when to sweep them.
+    // About how many casts have no copy in flight. It only says when to sweep them.
     done: usize,
     next: u64,
     count: usize,
@@ -68,7 +67,7 @@ impl Model for Copies {
         × IsLeastOf a.casts.entries a.least };
 }
 
-// So many copies, if the packet is a datum's, else none.
+// This many copies if it is a data packet, else 0.
 fn if_data(packet: &[u8], copies: usize) -> usize
     ensures { result ≡ (if is_data packet.now then copies else 0) }
 {
@@ -138,8 +137,8 @@ impl Copies {
         })
     }
 
-    /// The copy of the least id from this one on. The hint, whatever it is, makes no difference but
-    /// to how long it takes: it comes to be the index of the copy's cast.
+    /// The copy with the least id from this one on. The hint, whatever it is, affects only how long
+    /// this takes: it is set to the index of the copy's cast.
     pub fn next_from(&self, id: u64, hint: &mut usize) -> Option<FlyingView<'_>>
         ensures some { let copies = self.now.flying in
             IfSome result (λ f. from_id copies id ≡ flying_seen f ∷ from_id copies (f.id + 1)) }
@@ -158,8 +157,8 @@ impl Copies {
         })
     }
 
-    /// A copy of the packet flies to each member of the set. They have the next ids, by rising
-    /// member. That the set has none, as for nine of ten casts, is seen without a call.
+    /// A copy of the packet flies to each member of the set. The copies have the next ids, by
+    /// rising member. If the set is empty, as for nine of ten casts, no call is needed.
     #[inline(always)]
     pub fn cast(&mut self, from: usize, bytes: &[u8], to: &NodeSet)
         requires room { length (member_list to.now) ≤ self.old.room }
@@ -174,7 +173,7 @@ impl Copies {
         self.launch_all(from, bytes, to, copies)
     }
 
-    // So many copies of the packet, one or more, fly to the members of the set.
+    // This many copies of the packet, one or more, fly to the members of the set.
     #[inline(never)]
     fn launch_all(&mut self, from: usize, bytes: &[u8], to: &NodeSet, copies: usize)
         requires some { 0 < copies }
@@ -196,8 +195,9 @@ impl Copies {
         self.of_data += if_data(bytes, copies);
     }
 
-    /// A second copy like that of this id flies, with the next id. They share the packet's memory
-    /// where that can be. The answer is its id and receiver.
+    /// A second copy like the one of this id flies, with the next id. The two share the packet's
+    /// memory if they can. The answer is the second copy's id and receiver. None if no copy has
+    /// this id.
     pub fn double(&mut self, id: u64) -> Option<(u64, usize)>
         requires room { 1 ≤ self.old.room }
         requires fits { IsCopyWithin self.old.flying id self.old.most }
@@ -235,7 +235,7 @@ impl Copies {
         Some(spot.to)
     }
 
-    /// The copy of this id flies no more, if it did.
+    /// Removes the copy of this id, if it is in flight.
     #[inline(always)]
     pub fn remove(&mut self, id: u64)
         ensures { let left = without self.old.flying id in
@@ -247,15 +247,15 @@ impl Copies {
         self.remove_found(id, spot.to, spot.index)
     }
 
-    /// The same for a copy that was found, and so is known to go to this receiver. The hint, the
-    /// index at which it was found, makes no difference but to how long that takes.
+    /// `remove` for a copy that was found, and so is known to go to this receiver. The hint, the
+    /// index at which it was found, affects only how long this takes.
     #[inline(always)]
     pub fn remove_found(&mut self, id: u64, to: usize, hint: usize)
         requires { option_map (λ c. c.to) (find_copy self.old.flying id) ≡ Some to }
         ensures { let left = without self.old.flying id in
             self.new ≡ record self.old { flying = left } }
     {
-        // Read here, it is known to be the least copy's index where that is removed.
+        // Read here, this is known to be the index that is found if the least copy is removed.
         let front = front_of(&self.least);
         let Some(spot) = find_again(&self.casts, &self.least, id, to, hint) else {
             return;
@@ -271,8 +271,8 @@ impl Copies {
         self.least = least_from(&self.casts, gone);
     }
 
-    /// A copy flies, with an id after those of the others and below the next. It shares the packet
-    /// of the one before, where both can be of one cast.
+    /// Adds a copy, with an id after those of the others and below the next. It shares the packet
+    /// of the copy before it if both can be of one cast.
     pub fn put(&mut self, f: Flying) -> Result<(), NoMemory>
         requires id { (1 ≤ f.id) × (f.id < self.old.next_copy) }
         requires last { AreBefore f.id self.old.flying }
@@ -288,8 +288,8 @@ impl Copies {
         Ok(())
     }
 
-    /// Makes room for this many copies more, each of at most this many bytes. That it is there, as
-    /// for nine of ten casts, is seen by the rooms alone: there is a slot for each cast then.
+    /// Makes room for this many more copies, each of at most this many bytes. If it is there, as
+    /// for nine of ten casts, only the rooms are looked at: there is a slot for each cast then.
     #[inline(always)]
     pub fn make_room(&mut self, copies: usize, bytes: usize) -> Result<(), NoMemory>
         requires few { copies ≤ MOST_NODES }
@@ -307,8 +307,8 @@ impl Copies {
         self.make_more_room(copies, bytes)
     }
 
-    // The same, where rooms may be missing. It is a call of its own, since the memory of its locals
-    // would be cleared at each turn.
+    // `make_room`, when rooms may be missing. It is a call of its own: inlined, the memory of its
+    // locals would be cleared at each turn.
     #[cold]
     #[inline(never)]
     fn make_more_room(&mut self, copies: usize, bytes: usize) -> Result<(), NoMemory>

@@ -1,4 +1,5 @@
-//! Copies that fly as they flew in another radio: those that one cast can have made share a packet.
+//! Copies that fly as they flew in another radio: those that one cast could have made share a
+//! packet.
 ghost use Rattle.std.specs.Prelude.{◌≡◌, ℕ, ◌<◌, ◌≤◌, ◌+◌, ◌-◌, ◌^◌, ◌++◌, ◌∷◌, [], length, slice_get, Some, OnOk, OnErr, IfOk};
 ghost use Rattle.std.specs.Bool.{OnTrue};
 ghost use Rattle.indexmap.specs.IndexMap.{with_value_at};
@@ -35,7 +36,7 @@ fn is_next(casts: &Casts, f: &Flying) -> bool
     }
 }
 
-// A copy of the last cast flies to this receiver too.
+// Adds a copy of the last cast, which flies to this receiver.
 fn extend_last(casts: &mut Casts, to: usize)
     requires { to < 256 }
     ensures { (e : Entry) → slice_get casts.old.entries (length casts.old.entries - 1) ≡ Some e →
@@ -48,9 +49,10 @@ fn extend_last(casts: &mut Casts, to: usize)
     }
 }
 
-/// The copy flies, with an id after those of the others. It joins the last cast, where some copy
-/// flies and that cast could have made it after its others; else it has a cast of its own, for
-/// which memory is needed. The answer is the least copy then, where this one was.
+/// Adds the copy to those in flight, whose ids are before its own. It joins the last cast if some
+/// copy flies and that cast could have made it after its others; else it has a cast of its own, for
+/// which memory is needed. The answer is the least copy after that; `least` is the least copy
+/// before.
 pub fn gather(casts: &mut Casts, least: Option<Least>, f: Flying) -> Result<Option<Least>, NoMemory>
     requires casts { (next : ℕ) × AreCasts casts.old.entries next }
     requires least { IsLeastOf casts.old.entries least }

@@ -4,11 +4,12 @@ ghost use Rattle.mesh_radio.specs.Hashes.{written};
 
 use std::hash::Hasher;
 
-// 2^64 by the golden ratio: numbers that rise by even steps are spread evenly (Fibonacci hashing).
+// 2^64 divided by the golden ratio: numbers that rise by even steps are spread evenly (Fibonacci
+// hashing).
 const GOLDEN: u64 = 0x9e37_79b9_7f4a_7c15;
 
-/// The number that was written last, multiplied. Its high half is the hash: one multiplication,
-/// where the hasher of a map by default is a call.
+/// The number that was written last, multiplied by `GOLDEN`. The high half is the hash. This takes
+/// one multiplication, while a map's default hasher takes a call.
 #[derive(Clone, Copy)]
 pub struct NumberHasher {
     product: u64,

@@ -1,4 +1,4 @@
-//! Where a cast may join whose id was not given one after the other.
+//! How way is made for a cast whose id isn't the one after those of all casts.
 ghost use Rattle.std.specs.Prelude.{◌≡◌, ℕ, ◌≤◌};
 ghost use Rattle.std.specs.Bool.{OnTrue};
 ghost use Rattle.indexmap.specs.IndexMap.{spare};
@@ -8,7 +8,7 @@ ghost use Rattle.mesh_radio.specs.Casts.{Entry, AreCasts, IsCut, IsFront, IsLeas
 use crate::casts::{Cast, Casts, Least, least_from};
 use mesh_base::NodeSet;
 
-// Whether the id is after those of all casts.
+// Whether the id is after those of all casts' copies.
 fn is_after(casts: &Casts, id: u64) -> bool
     requires casts { (next : ℕ) × AreCasts casts.now.entries next }
     requires some { 1 ≤ id }
@@ -20,7 +20,7 @@ fn is_after(casts: &Casts, id: u64) -> bool
     }
 }
 
-// The first members of the set, at most so many.
+// The first members of the set, at most this many.
 fn front(to: &NodeSet, count: usize) -> NodeSet
     ensures { IsFront to.now count result }
 {
@@ -33,8 +33,9 @@ fn front(to: &NodeSet, count: usize) -> NodeSet
     front
 }
 
-// The ids from this one on are free again, where no copy flies that has one: the casts forget such
-// copies. It is a call of its own, since the memory of its locals would be cleared at each put.
+// Frees the ids from this one on, which no copy in flight has: the casts forget their copies with
+// such ids. It is a call of its own: inlined, the memory of its locals would be cleared at each
+// put.
 #[cold]
 #[inline(never)]
 fn free_from(casts: &mut Casts, id: u64)
@@ -58,8 +59,9 @@ fn free_from(casts: &mut Casts, id: u64)
     );
 }
 
-/// A cast may join at this id then, which is after those of all copies in flight. The answer is the
-/// least copy, where this one was. Only casts whose last copies are gone may stand in the way.
+/// Makes way for a cast at this id, which is after those of all copies in flight. Only casts whose
+/// last copies have been removed can be in the way. The answer is the least copy after that;
+/// `least` is the least copy before.
 pub fn make_way(casts: &mut Casts, least: Option<Least>, id: u64) -> Option<Least>
     requires casts { (next : ℕ) × AreCasts casts.old.entries next }
     requires least { IsLeastOf casts.old.entries least }

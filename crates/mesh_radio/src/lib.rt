@@ -1,6 +1,6 @@
 //! The links of a mesh and the copies of packets in flight: who is in range of whom, and what a
-//! cast puts in the radio. A copy stays in flight, whatever becomes of its link, until it is taken.
-//! Only making a radio and making room take memory, so that a cast can't fail.
+//! cast puts in the radio. A copy stays in flight, whatever happens to its link, until it is taken
+//! out. Room is made before a cast, so that a cast can't fail.
 #![tactic(auto)]
 
 mod adjacency;

@@ -2,7 +2,7 @@
 ghost use Rattle.std.specs.Prelude.{ℕ, IfSome};
 ghost use Rattle.mesh_radio.specs.Casts.{IsSplit, AreSorted};
 
-// How many of the rising ids are at most this one: a search by halves.
+// How many of the rising ids are at most this one, by binary search.
 fn position_after(firsts: &[u64], id: u64) -> usize
     requires { AreSorted firsts.now }
     ensures { IsSplit firsts.now id result }
@@ -20,7 +20,8 @@ fn position_after(firsts: &[u64], id: u64) -> usize
     low
 }
 
-// The same, where the id stands at this position or at the one after it.
+// How many of the rising ids are at most this one, if the last of them is at this position or at
+// the one after it.
 fn position_by(firsts: &[u64], id: u64, position: usize) -> Option<usize>
     requires { AreSorted firsts.now }
     ensures { IfSome result (IsSplit firsts.now id) }
@@ -38,8 +39,8 @@ fn position_by(firsts: &[u64], id: u64, position: usize) -> Option<usize>
     None
 }
 
-// Where the id would stand if the ids rose evenly, as those of casts to equally many do. It is only
-// where to look first.
+// The position that the id would have if the ids rose evenly, as those of casts to equally many
+// nodes do. It only says where to look first.
 fn even_position(firsts: &[u64], id: u64) -> usize {
     let len = firsts.len();
     if len == 0 {
@@ -53,9 +54,9 @@ fn even_position(firsts: &[u64], id: u64) -> usize {
     ((id - first).wrapping_mul(len as u64 - 1) / (last - first)) as usize
 }
 
-/// How many of the rising ids are at most this one. The hint makes no difference but to how long
-/// that takes: a position at it or next to it is found at once, and so is one of ids that rise
-/// evenly.
+/// How many of the rising ids are at most this one. The hint affects only how long this takes: no
+/// search is needed if the last of them is at the hint or at the position after it, or if the ids
+/// rise evenly.
 #[inline(always)]
 pub fn position_near(firsts: &[u64], id: u64, hint: usize) -> usize
     requires { AreSorted firsts.now }

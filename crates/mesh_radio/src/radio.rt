@@ -63,7 +63,7 @@ impl Radio {
         })
     }
 
-    /// The link between a and b comes to stand, both ways. False where it stood already.
+    /// Makes the link between a and b, both ways. False if it stood already.
     pub fn link(&mut self, a: usize, b: usize) -> bool
         requires first { a < self.old.size }
         requires second { b < self.old.size }
@@ -80,7 +80,7 @@ impl Radio {
         true
     }
 
-    /// The link between a and b falls, both ways. False where it didn't stand.
+    /// Cuts the link between a and b, both ways. False if it didn't stand.
     pub fn cut(&mut self, a: usize, b: usize) -> bool
         requires first { a < self.old.size }
         requires second { b < self.old.size }
@@ -115,8 +115,8 @@ impl Radio {
         self.ever.has(a, b)
     }
 
-    /// Makes room for this many copies more, each of at most this many bytes. What room there is
-    /// stays.
+    /// Makes room for this many more copies, each of at most this many bytes. Room that is there
+    /// is kept.
     #[inline(always)]
     pub fn make_room(&mut self, copies: usize, bytes: usize) -> Result<(), NoMemory>
         requires few { copies ≤ MOST_NODES }
@@ -149,7 +149,7 @@ impl Radio {
         Air { first, to: *to }
     }
 
-    /// Puts a copy into the radio, with its packet and as it stood elsewhere: its id is after those
+    /// Puts a copy into the radio, as it was in another one, with its packet. Its id is after those
     /// of the copies in flight, and below the next.
     pub fn put(&mut self, f: Flying) -> Result<(), NoMemory>
         requires id { (1 ≤ f.id) × (f.id < self.old.next_copy) }
@@ -163,8 +163,8 @@ impl Radio {
         self.copies.put(f)
     }
 
-    /// The copy of this id is doubled: a second copy like it flies, with the next id. The answer is
-    /// its id and receiver. None where no copy in flight has this id.
+    /// Doubles the copy of this id: a second copy like it flies, with the next id. The answer is
+    /// the second copy's id and receiver. None if no copy in flight has this id.
     pub fn double(&mut self, id: u64) -> Option<(u64, usize)>
         requires room { (1 ≤ self.old.room) × (longest_packet ≤ self.old.most) }
         requires next { self.old.next_copy + MOST_NODES < 2 ^ 64 }
@@ -175,7 +175,7 @@ impl Radio {
         self.copies.double(id)
     }
 
-    /// The receiver of the copy of this id. None where no copy in flight has it.
+    /// The receiver of the copy of this id. None if no copy in flight has it.
     #[inline(always)]
     pub fn receiver(&self, id: u64) -> Option<usize>
         ensures { result ≡ option_map (λ c. c.to) (find_copy self.now.flying id) }
@@ -183,7 +183,7 @@ impl Radio {
         self.copies.receiver(id)
     }
 
-    /// The copy of this id isn't in flight any more, if it was.
+    /// Removes the copy of this id from the copies in flight, if it is one of them.
     #[inline(always)]
     pub fn remove(&mut self, id: u64)
         ensures { self.new ≡ without_copy self.old id }
@@ -191,8 +191,8 @@ impl Radio {
         self.copies.remove(id)
     }
 
-    /// The same for a copy that `held` found, with its receiver. The hint makes no difference but
-    /// to how long that takes: it is the index at which `held` found the copy.
+    /// `remove` for a copy that `held` found, with its receiver. The hint affects only how long
+    /// this takes: it is the index at which `held` found the copy.
     #[inline(always)]
     pub fn remove_found(&mut self, id: u64, to: usize, hint: usize)
         requires { option_map (λ c. c.to) (find_copy self.old.flying id) ≡ Some to }
@@ -201,9 +201,9 @@ impl Radio {
         self.copies.remove_found(id, to, hint)
     }
 
-    /// The copy of this id is taken out of the radio. None where no copy in flight has it. Copies
-    /// of one cast share a packet, so what is answered is a copy of it: memory is asked for where
-    /// that has more than 32 bytes.
+    /// Takes the copy of this id out of the radio. None if no copy in flight has it. Copies of one
+    /// cast share a packet, so the answer has a copy of the packet: memory is asked for if that has
+    /// more than 32 bytes.
     pub fn take(&mut self, alloc: Global, id: u64) -> Result<Option<Flying>, NoMemory>
         ensures taken { IfOk result (λ copy. copy ≡ find_copy self.old.flying id) }
         ensures gone { OnOk result (self.new ≡ without_copy self.old id) }
@@ -223,7 +223,7 @@ impl Radio {
         Ok(Some(taken))
     }
 
-    /// The copy of this id, which flies on. None where no copy in flight has it.
+    /// The copy of this id, which stays in flight. None if no copy in flight has it.
     #[inline(always)]
     pub fn find(&self, id: u64) -> Option<FlyingView<'_>>
         ensures { option_map flying_seen result ≡ find_copy self.now.flying id }
@@ -237,7 +237,7 @@ impl Radio {
         })
     }
 
-    /// The same, with its packet as it is kept.
+    /// What `find` returns, with the packet as it is kept.
     #[inline(always)]
     pub fn held(&self, id: u64) -> Option<Held<'_>>
         ensures { option_map held_seen result ≡ find_copy self.now.flying id }
@@ -262,9 +262,9 @@ impl Radio {
         self.copies.data_count()
     }
 
-    /// The copy in flight of the least id from this one on: all copies come one after the other
-    /// where each is asked for by the id after the last. The hint makes no difference but to how
-    /// long that takes: begin with 0, and hand on what the last call left in it.
+    /// The copy in flight with the least id from this one on. To go over all copies, ask for each
+    /// by the id after the last one's. The hint affects only how long this takes: begin with 0, and
+    /// pass on what the last call left in it.
     pub fn next_from(&self, id: u64, hint: &mut usize) -> Option<FlyingView<'_>>
         ensures some { let copies = self.now.flying in
             IfSome result (λ f. from_id copies id ≡ flying_seen f ∷ from_id copies (f.id + 1)) }
@@ -277,8 +277,8 @@ impl Radio {
         self.copies.next_from(id, hint)
     }
 
-    /// The copy in flight of this rank, counted from 0 by rising id. It goes over those before it:
-    /// `next_from` is better where all are wanted.
+    /// The copy in flight of this rank, counted from 0 by rising id. This goes over the copies
+    /// before it: use `next_from` to go over all of them.
     pub fn at(&self, k: usize) -> FlyingView<'_>
         requires { k < length self.now.flying }
         ensures { slice_get self.now.flying k ≡ Some (flying_seen result) }

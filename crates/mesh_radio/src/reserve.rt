@@ -11,14 +11,14 @@ use std::marker::Model;
 // Most packets are no longer than this: requests, replies and short data.
 const SHORT: usize = 64;
 
-/// Memory for packets to come, whatever their lengths are: as many rooms for short packets as for
-/// the longest, so that a short packet doesn't use up a long room. The shortest use up none.
+/// Memory for packets to come, whatever their lengths are. For each there is a short room and a
+/// long one, so that a short packet doesn't use up a long room. The shortest packets use up none.
 #[derive(Drop)]
 pub struct Reserve {
     alloc: Global,
     short: SizeClass,
     long: SizeClass,
-    // For so many packets there is room on both size classes.
+    // There is room for this many packets in both size classes.
     packets: usize,
 }
 
@@ -55,8 +55,8 @@ impl Reserve {
         count <= self.packets && bytes <= self.long.bytes()
     }
 
-    /// Makes sure of room for this many packets, each of this many bytes. What is there stays,
-    /// where it is large enough.
+    /// Makes sure that there is room for this many packets, each of this many bytes. Rooms that are
+    /// large enough are kept.
     #[inline(always)]
     pub fn make(&mut self, count: usize, bytes: usize) -> Result<(), NoMemory>
         ensures ok { OnOk result ((count ≤ self.new.room) × (bytes ≤ self.new.most)) }
@@ -71,7 +71,7 @@ impl Reserve {
         self.make_more(count, bytes)
     }
 
-    // The same, where rooms may be missing.
+    // `make`, when rooms may be missing.
     #[cold]
     #[inline(never)]
     fn make_more(&mut self, count: usize, bytes: usize) -> Result<(), NoMemory>
@@ -92,8 +92,8 @@ impl Reserve {
         Ok(())
     }
 
-    /// The bytes of a packet of which this many copies fly, in the memory of one room. Of a long
-    /// room what the packet doesn't need goes back at once, so that a packet takes up its own
+    /// The bytes of a packet of which this many copies fly, in the memory of at most one room. What
+    /// the packet doesn't need of a long room is given back, so that a packet takes up its own
     /// length.
     pub fn fill(&mut self, bytes: &[u8], copies: usize) -> Bytes
         requires room { (1 ≤ copies) × (copies ≤ self.old.room) }
@@ -113,8 +113,8 @@ impl Reserve {
         own
     }
 
-    /// The bytes of a packet once more, for one copy: shared with it, or, where memory for that
-    /// isn't there, in the memory of one room.
+    /// The bytes of a packet once more, for one copy: shared with the packet or, if there is no
+    /// memory for that, in the memory of one room.
     pub fn double(&mut self, packet: &mut Shared) -> Shared
         requires room { 1 ≤ self.old.room }
         requires fits { length packet.old ≤ self.old.most }

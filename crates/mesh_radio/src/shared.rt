@@ -30,7 +30,8 @@ impl Model for Shared {
     ghost view = { λ s. shared_bytes s.kept };
 }
 
-// The same twice. None is the second where so many own the bytes that one more can't be counted.
+// The same bytes twice. The second is None if they have so many owners that one more can't be
+// counted.
 fn twice(counted: Rc<Bytes>) -> (Shared, Option<Shared>)
     ensures first { result.0 ≡ counted.value }
     ensures second { IfSome result.1 (λ s. s ≡ counted.value) }
@@ -47,7 +48,8 @@ fn twice(counted: Rc<Bytes>) -> (Shared, Option<Shared>)
     (first, second)
 }
 
-// The same twice. None is the second where memory for the count isn't there.
+// The same bytes twice. The second is None if there is no memory for the count of their owners, or
+// if one more can't be counted.
 fn split(alloc: Global, shared: Shared) -> (Shared, Option<Shared>)
     ensures first { result.0 ≡ shared }
     ensures second { IfSome result.1 (λ s. s ≡ shared) }
@@ -67,7 +69,7 @@ fn split(alloc: Global, shared: Shared) -> (Shared, Option<Shared>)
 }
 
 impl Shared {
-    /// Bytes that nobody else has.
+    /// Bytes with no other owner.
     pub fn own(bytes: Bytes) -> Shared
         ensures { result ≡ bytes }
     {
@@ -76,7 +78,7 @@ impl Shared {
         }
     }
 
-    /// No byte.
+    /// No bytes.
     pub fn empty() -> Shared
         ensures { result ≡ [] }
     {
@@ -100,8 +102,8 @@ impl Shared {
         self.as_bytes().as_slice()
     }
 
-    /// The same bytes once more, in no memory of their own but for up to 32 of them. None where
-    /// memory to count their owners isn't there.
+    /// The same bytes once more, which take no memory of their own unless they are at most 32. None
+    /// if there is no memory for the count of their owners, or if one more can't be counted.
     pub fn share(&mut self, alloc: Global) -> Option<Shared>
         ensures same { self.new ≡ self.old }
         ensures second { IfSome result (λ s. s ≡ self.old) }

@@ -1,4 +1,4 @@
-//! Rooms that are large enough for one number of bytes.
+//! Rooms that are each large enough for the same number of bytes.
 ghost use Rattle.std.specs.Prelude.{◌≡◌, ◌<◌, ◌≤◌, ◌-◌, ◌+◌, length, OnOk, OnErr};
 
 use mesh_base::{NoMemory, Room};
@@ -34,7 +34,7 @@ impl SizeClass {
         }
     }
 
-    /// Makes sure of this many rooms. A refusal may leave fewer rooms more.
+    /// Makes sure that there are this many rooms. If it is refused, some may have been added.
     pub fn fill_up(&mut self, alloc: Global, count: usize) -> Result<(), NoMemory>
         ensures most { self.new.most ≡ self.old.most }
         ensures keeps { self.old.room ≤ self.new.room }
@@ -46,7 +46,7 @@ impl SizeClass {
         Ok(())
     }
 
-    // One room more.
+    // Adds one room.
     fn put_one(&mut self, alloc: Global) -> Result<(), NoMemory>
         ensures ok { OnOk result (self.new ≡ record self.old { room = self.old.room + 1 }) }
         ensures refused { OnErr result (self.new ≡ self.old) }
@@ -63,7 +63,7 @@ impl SizeClass {
         self.rooms.len()
     }
 
-    /// For how many bytes each room is large enough.
+    /// The number of bytes for which each room is large enough.
     pub fn bytes(&self) -> usize
         ensures { result ≡ self.now.most }
     {

@@ -1,6 +1,6 @@
--- Sums: what the code counts, as the definitions have it.
+-- Sums: the definitions' sums for the code's.
 pub mod Sums
--- Gathering: texts that are put in part.
+-- Gathering: texts that were written in part.
 pub mod Gathering
--- Legible: what a node's step did, whoever wrote what it took.
+-- Legible: what an event and a node's step did, whoever wrote the packets that were taken or lost.
 pub mod Legible

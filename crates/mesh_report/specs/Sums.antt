@@ -1,4 +1,4 @@
--- The counts of a run, as the definitions have them.
+-- The definitions' sums of a run for the code's.
 use Rattle.mesh_text.specs.Schedule as model
 use Rattle.mesh_report.specs.declared.sums.Sums.{Sums}
 

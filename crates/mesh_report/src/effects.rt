@@ -36,7 +36,7 @@ use mesh_script::{Line, print_line};
 
 // ---- data
 
-// A datum of one address for another, after a label.
+// Appends a label and a datum of one address for another, as a line.
 fn push_datum(out: &mut LineBuf, label: &[u8], origin: Addr, dest: Addr, body: &[u8])
     requires short { length body.now ≤ LONGEST_DATUM }
     requires room { length out.old + length label.now + DATUM_WIDTH ≤ LINE_CAPACITY }
@@ -54,7 +54,7 @@ fn push_datum(out: &mut LineBuf, label: &[u8], origin: Addr, dest: Addr, body: &
     out.push(b'\n');
 }
 
-// The datum of a packet, if it has one, after a label.
+// Appends a label and the datum of a packet, as a line, if the packet has one.
 fn push_datum_in(out: &mut LineBuf, label: &[u8], packet: &[u8])
     requires room { length out.old + length label.now + DATUM_WIDTH ≤ LINE_CAPACITY }
     ensures text { (mesh : Nodes) → IsWritten mesh packet.now
@@ -89,7 +89,7 @@ fn took_label(kind: Kind) -> &'static [u8; 12]
     }
 }
 
-// What node `me` took.
+// Appends what node `me` took.
 fn push_took(out: &mut LineBuf, mesh: &Mesh, me: usize, took: &Took)
     requires me { me < length mesh.now }
     requires took { IsTookLegible mesh.now took.now }
@@ -105,7 +105,7 @@ fn push_took(out: &mut LineBuf, mesh: &Mesh, me: usize, took: &Took)
     out.push(b'\n');
 }
 
-// The datum that node `me` took, which it has delivered.
+// Appends the datum that node `me` took and has delivered.
 fn push_delivery(out: &mut LineBuf, mesh: &Mesh, me: usize, took: &Took)
     requires me { me < length mesh.now }
     requires took { IsTookLegible mesh.now took.now }
@@ -125,7 +125,7 @@ fn push_delivery(out: &mut LineBuf, mesh: &Mesh, me: usize, took: &Took)
     }
 }
 
-// The datum that was taken, which is dropped.
+// Appends the datum that was taken and is dropped.
 fn push_drop(out: &mut LineBuf, took: &Took)
     requires room { length out.old + DROPPED_LINE ≤ LINE_CAPACITY }
     ensures text { (mesh : Nodes) → IsTookLegible mesh took.now
@@ -137,8 +137,8 @@ fn push_drop(out: &mut LineBuf, took: &Took)
     }
 }
 
-// The datum that node `me` took, if it was delivered or dropped. The packet that was cast has no
-// part in that.
+// Appends the datum that node `me` took, if it was delivered or dropped. This doesn't depend on the
+// packet that was cast.
 fn push_fate(out: &mut LineBuf, mesh: &Mesh, me: usize, took: &Took, effect: &Effect)
     requires me { me < length mesh.now }
     requires took { IsTookLegible mesh.now took.now }
@@ -154,7 +154,7 @@ fn push_fate(out: &mut LineBuf, mesh: &Mesh, me: usize, took: &Took, effect: &Ef
     }
 }
 
-// What node `me` took, and what became of it.
+// Appends what node `me` took, and what became of it.
 #[tactic(auto, using(std::proofs::lemmas::List::append_assoc))]
 fn push_turn(out: &mut LineBuf, mesh: &Mesh, me: usize, took: &Took, effect: &Effect)
     requires me { me < length mesh.now }
@@ -167,7 +167,7 @@ fn push_turn(out: &mut LineBuf, mesh: &Mesh, me: usize, took: &Took, effect: &Ef
     push_fate(out, mesh, me, took, effect);
 }
 
-// The same, where there was a turn.
+// Does what `push_turn` does, if there was a turn.
 fn push_taken(out: &mut LineBuf, mesh: &Mesh, me: usize, took: Option<&Took>, effect: &Effect)
     requires me { me < length mesh.now }
     requires took { IfSome took (λ t. IsTookLegible mesh.now t.now) }
@@ -193,7 +193,7 @@ fn push_broken(out: &mut LineBuf, mesh: &Mesh, broken: Option<usize>)
     }
 }
 
-// To whom a packet was cast, and the packet.
+// Appends to whom a packet was cast, and the packet.
 #[tactic(auto, using(std::proofs::lemmas::List::append_assoc))]
 fn push_cast(out: &mut LineBuf, mesh: &Mesh, cast: &Cast, packet: &Packet)
     requires cast { IsCastWritten mesh.now cast.now packet.now.items }
@@ -220,7 +220,7 @@ fn push_cast(out: &mut LineBuf, mesh: &Mesh, cast: &Cast, packet: &Packet)
     }
 }
 
-// Hands on what the buffer has, where there is no room in it for so many bytes more.
+// Writes what the buffer has, and clears it, if it has no room for this many bytes more.
 fn make_room<O: Sink>(buf: &mut LineBuf, bytes: usize, out: &mut O) -> Result<(), PutFault>
     requires { bytes ≤ LINE_CAPACITY }
     ensures room { OnOk result (length buf.new + bytes ≤ LINE_CAPACITY) }
@@ -246,7 +246,8 @@ fn push_copy(out: &mut LineBuf, mesh: &Mesh, id: u64, to: usize)
     out.push(b'\n');
 }
 
-// What the buffer has, and then the copies of a cast, one line each: no buffer has room for all.
+// Writes what the buffer has, and then the copies of a cast, one line each. They may be more than
+// the buffer has room for.
 fn put_air<O: Sink>(mesh: &Mesh, air: &Air, buf: &mut LineBuf, out: &mut O) -> Result<(), PutFault>
     requires receivers { AreBelow (length mesh.now) air.now.to }
     requires few { air.now.first + MOST_NODES < 2 ^ 64 }
@@ -268,7 +269,7 @@ fn put_air<O: Sink>(mesh: &Mesh, air: &Air, buf: &mut LineBuf, out: &mut O) -> R
     put_all(out, buf.as_slice())
 }
 
-// What the buffer has, and then the copies of a cast, if there is one.
+// Writes what the buffer has, and then the copies of a cast, if there was one.
 #[tactic(auto, unfolding(mesh_meaning::specs::Answers::copies_in))]
 fn put_copies<O: Sink>(
     mesh: &Mesh,
@@ -291,7 +292,7 @@ fn put_copies<O: Sink>(
     }
 }
 
-// A failed unicast, and what was cast.
+// Appends a failed unicast, and what was cast.
 fn push_sent(out: &mut LineBuf, mesh: &Mesh, effect: &Effect, packet: &Packet)
     requires broken { IfSome effect.now.broken (λ y. y < length mesh.now) }
     requires cast { IsCastWritten mesh.now effect.now.cast packet.now.items }
@@ -303,7 +304,7 @@ fn push_sent(out: &mut LineBuf, mesh: &Mesh, effect: &Effect, packet: &Packet)
     push_cast(out, mesh, &effect.cast, packet);
 }
 
-// What the buffer has, and then a failed unicast, what was cast, and its copies.
+// Writes what the buffer has, and then a failed unicast, what was cast, and its copies.
 fn put_sent<O: Sink>(
     mesh: &Mesh,
     effect: &Effect,
@@ -323,8 +324,9 @@ fn put_sent<O: Sink>(
     put_copies(mesh, &effect.cast, air, buf, out)
 }
 
-/// Writes what a node's step did beside its copies: what node `me` took from its inbox, if the step
-/// was a turn, and what became of that; then a failed unicast, and what was cast, with the packet.
+/// Writes what a node's step did, except for its copies: what node `me` took from its inbox, if the
+/// step was a turn, and what became of that; then a failed unicast, and what was cast, with the
+/// packet.
 pub fn put_effect<O: Sink>(
     mesh: &Mesh,
     me: usize,
@@ -374,7 +376,7 @@ fn push_lost_copy(out: &mut LineBuf, mesh: &Mesh, from: usize, to: usize)
     out.push(b'\n');
 }
 
-// A lost copy, and the datum that is dropped with it.
+// Appends a lost copy, and the datum that is dropped with it.
 fn push_lost(out: &mut LineBuf, mesh: &Mesh, flying: &Flying)
     requires from { flying.now.from < length mesh.now }
     requires to { flying.now.to < length mesh.now }
@@ -391,7 +393,7 @@ fn push_lost(out: &mut LineBuf, mesh: &Mesh, flying: &Flying)
 
 // ---- events
 
-// What the buffer has, and then what an event did.
+// Writes what the buffer has, and then what an event did.
 #[tactic(auto, unfolding(mesh_text::specs::Effects::world_effect_text))]
 fn put_after<O: Sink>(
     mesh: &Mesh,
@@ -426,9 +428,9 @@ fn put_after<O: Sink>(
     put_all(out, buf.as_slice())
 }
 
-/// Writes what an event did, one line for each effect. The packet is the one that was cast, if any.
-/// One that was taken or lost may be any that can be read. Nothing is written of a datum that
-/// joined an inbox or of a link that changed.
+/// Writes what an event did, one line for each effect. `packet` is the one that was cast, if any
+/// was. A packet that was taken or lost may be anybody's, if it can be read and names only nodes of
+/// the mesh. Nothing is written about a datum that joined an inbox or a link that changed.
 pub fn put_done<O: Sink>(
     mesh: &Mesh,
     e: &Event<'_>,
@@ -448,7 +450,7 @@ pub fn put_done<O: Sink>(
     put_after(mesh, e, done, packet, buf, out)
 }
 
-/// Writes an event in canonical form, and below it what it did.
+/// Writes an event in canonical form, and below it what the event did.
 pub fn put_event<O: Sink>(
     mesh: &Mesh,
     e: &Event<'_>,
@@ -471,7 +473,8 @@ pub fn put_event<O: Sink>(
     put_after(mesh, e, done, packet, buf, out)
 }
 
-/// Writes the line of an event, which is in canonical form already, and below it what it did.
+/// Writes the line of an event, given by its bytes, which are in canonical form already, and below
+/// it what the event did.
 pub fn put_echoed_event<O: Sink>(
     bytes: &[u8],
     mesh: &Mesh,

@@ -1,4 +1,4 @@
-//! The last line of a run, and the line after chosen events.
+//! The last line of a run, and the line that follows chosen events.
 ghost use Rattle.std.specs.Prelude.{◌≡◌, ◌+◌, ◌<◌, ◌≤◌, ◌++◌, length, codes};
 ghost use Rattle.mesh_model.specs.InMesh.{IsEvent};
 ghost use Rattle.mesh_meaning.specs.Events.{event_of};
@@ -35,7 +35,7 @@ pub struct Summary {
     pub flying: u64,
 }
 
-// The counts of events, and of the data that were given and delivered.
+// Appends the counts of events, and of the data that were given and delivered.
 fn push_done(out: &mut LineBuf, s: &Sums)
     requires room { length out.old + DONE_WIDTH ≤ LINE_CAPACITY }
     ensures text { out.new ≡ out.old
@@ -51,7 +51,7 @@ fn push_done(out: &mut LineBuf, s: &Sums)
     push_labelled(out, b" delivered ", s.delivered);
 }
 
-// How many data packets were doubled, where any were.
+// Appends how many data packets were doubled, if any were.
 fn push_copied(out: &mut LineBuf, copied: u64)
     requires room { length out.old + COPIED_WIDTH ≤ LINE_CAPACITY }
     ensures text { out.new ≡ out.old ++ copied_words copied }
@@ -89,7 +89,7 @@ pub fn put_summary<O: Sink>(s: &Summary, buf: &mut LineBuf, out: &mut O) -> Resu
 
 // ---- a line is refused
 
-// A fault, and the bytes of the line that it is about.
+// Appends a fault, and the bytes of the line that it is about.
 #[tactic(auto, using(std::proofs::lemmas::List::append_assoc))]
 fn push_at(out: &mut LineBuf, fault: &[u8], span: Span)
     requires room { length out.old + length fault.now + SPAN_WIDTH ≤ LINE_CAPACITY }
@@ -144,7 +144,7 @@ fn push_bad(out: &mut LineBuf, line: u64, why: &BadWhy)
     out.push(b'\n');
 }
 
-/// Writes the last line of a run that a line has ended. Lines count from 1.
+/// Writes the last line of a run that a line has ended. Lines are counted from 1.
 pub fn put_bad<O: Sink>(
     line: u64,
     why: &BadWhy,
@@ -185,8 +185,8 @@ fn push_full(out: &mut LineBuf, mesh: &Mesh, line: u64, e: &Event<'_>, field: &C
     out.push(b'\n');
 }
 
-/// Writes the last line of a run that an event of this line has ended, since a counter is full.
-/// Lines count from 1.
+/// Writes the last line of a run that an event of this line has ended, because a counter is full.
+/// Lines are counted from 1.
 pub fn put_full<O: Sink>(
     mesh: &Mesh,
     line: u64,

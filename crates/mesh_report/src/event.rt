@@ -4,7 +4,7 @@ ghost use Rattle.mesh_meaning.specs.Events.{event_of, node_of};
 
 use mesh_base::Event;
 
-// The node at which an event is. A link or a copy is at none, and 0 stands for that.
+// The node at which an event happens. An event of a link or a copy happens at no node, and gives 0.
 pub(crate) fn node_of(e: &Event<'_>) -> usize
     ensures { result ≡ node_of (event_of e.now) }
 {

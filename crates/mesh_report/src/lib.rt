@@ -1,8 +1,8 @@
 //! The texts of a run, each written to a sink: a schedule's line, what an event did, a node's
 //! state, a route's end, the copies in flight, and the last line.
 //!
-//! Each call takes a line's buffer and may replace what it holds, so that no call makes one. A call
-//! takes no memory, and fails only where the sink does.
+//! Each call is given a line's buffer and may replace what it holds, so that no call has to make
+//! one. A call takes no memory, and fails only if the sink does.
 #![tactic(auto)]
 
 mod effects;

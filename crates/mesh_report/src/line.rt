@@ -1,4 +1,4 @@
-//! The line of a schedule, as it is written back, or as it stands.
+//! Writing a line of a schedule, in canonical form or as it was read.
 ghost use Rattle.std.specs.Prelude.{◌≤◌, length};
 ghost use Rattle.mesh_grammar.specs.Written.{line as ended};
 ghost use Rattle.mesh_text.specs.Lines.{words_of};
@@ -10,7 +10,7 @@ use mesh_base::{LONGEST_LINE, LineBuf, Mesh, push_text};
 use mesh_io::{PutFault, Sink, put_all};
 use mesh_script::{Line, print_line};
 
-/// Writes an allowed line in canonical form, and its LF: of a blank line the LF alone.
+/// Writes an allowed line in canonical form, and its LF. For a blank line that is the LF alone.
 pub fn put_line<O: Sink>(
     mesh: &Mesh,
     line: &Line<'_>,
@@ -27,7 +27,7 @@ pub fn put_line<O: Sink>(
     put_all(out, buf.as_slice())
 }
 
-/// Writes a line as it stands, and its LF. It takes the place of what the buffer held.
+/// Writes a line as it was read, and its LF. It replaces what the buffer held.
 pub fn put_echo<O: Sink>(line: &[u8], buf: &mut LineBuf, out: &mut O) -> Result<(), PutFault>
     requires { length line.now ≤ LONGEST_LINE }
     ensures text { Puts (O.held out.old) (O.held out.new) (ended line.now) result }

@@ -20,7 +20,7 @@ pub struct Sums {
 }
 
 impl Sums {
-    /// Nothing yet.
+    /// Nothing was counted yet.
     pub fn new() -> Sums
         ensures { result ≡ record {
           events = 0;

@@ -27,7 +27,7 @@ fn push_number_line(out: &mut LineBuf, label: &[u8], n: u64)
     out.push(b'\n');
 }
 
-/// Writes a number of a node, or the hops of a route, after its label.
+/// Writes a label, and a number of a node or the hops of a route after it.
 pub fn put_number<O: Sink>(
     label: &[u8],
     n: u64,
@@ -83,7 +83,7 @@ fn flag_word(flag: Flag) -> &'static [u8]
     }
 }
 
-// The number of an entry and whether it is known, whether the route is valid, and its hops.
+// Appends an entry's number and whether it is known, whether the route is valid, and its hops.
 #[tactic(auto, using(std::proofs::lemmas::List::append_assoc))]
 fn push_quality(out: &mut LineBuf, e: &Entry)
     requires room { length out.old + QUALITY_WIDTH ≤ LINE_CAPACITY }
@@ -98,7 +98,7 @@ fn push_quality(out: &mut LineBuf, e: &Entry)
     push_number(out, u64::from(e.hops));
 }
 
-// The entry for d.
+// Appends the entry for d.
 fn push_entry(out: &mut LineBuf, mesh: &Mesh, d: usize, e: &Entry)
     requires dest { d < length mesh.now }
     requires next { e.now.next < length mesh.now }
@@ -165,7 +165,7 @@ pub fn put_waits<O: Sink>(
 
 // ---- a route
 
-/// Writes the node at which the valid routes to a destination end, and how many hops lead there.
+/// Writes the node at which the valid routes for a destination end, and how many hops lead there.
 #[tactic(auto, unfolding(mesh_text::specs::Tables::stuck_line))]
 pub fn put_stuck<O: Sink>(
     mesh: &Mesh,
@@ -187,7 +187,7 @@ pub fn put_stuck<O: Sink>(
 
 // ---- the radio
 
-// A copy in flight.
+// Appends a copy in flight.
 fn push_flying(out: &mut LineBuf, mesh: &Mesh, f: &FlyingView<'_>)
     requires from { f.now.from < length mesh.now }
     requires to { f.now.to < length mesh.now }

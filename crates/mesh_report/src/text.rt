@@ -13,7 +13,7 @@ use crate::widths::{SET_WIDTH, TWO_ADDRESSES};
 use mesh_base::{LINE_CAPACITY, LineBuf, Mesh, NodeSet, push_number, push_text};
 use mesh_script::{ADDRESS_WIDTH, NUMBER_WIDTH};
 
-/// A node's address.
+/// Appends a node's address.
 #[inline(always)]
 pub(crate) fn push_name(out: &mut LineBuf, mesh: &Mesh, i: usize)
     requires node { i < length mesh.now }
@@ -24,7 +24,7 @@ pub(crate) fn push_name(out: &mut LineBuf, mesh: &Mesh, i: usize)
     mesh.push_name(i, out);
 }
 
-/// A label, and a node's address.
+/// Appends a label, and a node's address.
 #[inline]
 pub(crate) fn push_one<const N: usize>(out: &mut LineBuf, label: &[u8; N], mesh: &Mesh, i: usize)
     requires node { i < length mesh.now }
@@ -36,7 +36,7 @@ pub(crate) fn push_one<const N: usize>(out: &mut LineBuf, label: &[u8; N], mesh:
     push_name(out, mesh, i);
 }
 
-/// A label, and two nodes' addresses.
+/// Appends a label, and two nodes' addresses with a space between them.
 #[inline]
 pub(crate) fn push_two<const N: usize>(
     out: &mut LineBuf,
@@ -56,7 +56,7 @@ pub(crate) fn push_two<const N: usize>(
     push_name(out, mesh, j);
 }
 
-/// A label, and a number.
+/// Appends a label, and a number.
 #[inline]
 pub(crate) fn push_labelled<const N: usize>(out: &mut LineBuf, label: &[u8; N], n: u64)
     requires room { length out.old + length label.now + NUMBER_WIDTH ≤ LINE_CAPACITY }
@@ -67,7 +67,7 @@ pub(crate) fn push_labelled<const N: usize>(out: &mut LineBuf, label: &[u8; N], 
     push_number(out, n);
 }
 
-// The two digits of each byte.
+// The two hexadecimal digits of each byte.
 static HEX: [[u8; 2]; 256] = [
     *b"00", *b"01", *b"02", *b"03", *b"04", *b"05", *b"06", *b"07", *b"08", *b"09", *b"0a", *b"0b",
     *b"0c", *b"0d", *b"0e", *b"0f", *b"10", *b"11", *b"12", *b"13", *b"14", *b"15", *b"16", *b"17",
@@ -93,7 +93,7 @@ static HEX: [[u8; 2]; 256] = [
     *b"fc", *b"fd", *b"fe", *b"ff",
 ];
 
-// Appends the two digits of a byte.
+// Appends the two hexadecimal digits of a byte.
 fn push_hex_byte(out: &mut LineBuf, b: u8)
     requires room { length out.old + 2 ≤ LINE_CAPACITY }
     ensures text { out.new ≡ out.old ++ hex_byte b }
@@ -102,7 +102,7 @@ fn push_hex_byte(out: &mut LineBuf, b: u8)
     out.push_array(&HEX[b as usize]);
 }
 
-/// Bytes in hexadecimal.
+/// Appends bytes in hexadecimal.
 #[inline]
 pub(crate) fn push_hex(out: &mut LineBuf, bytes: &[u8])
     requires room { length out.old + 2 * length bytes.now ≤ LINE_CAPACITY }
@@ -114,7 +114,7 @@ pub(crate) fn push_hex(out: &mut LineBuf, bytes: &[u8])
     }
 }
 
-/// A packet in hexadecimal after a space, to the line's end.
+/// Appends a space, a packet in hexadecimal, and the LF that ends the line.
 #[inline]
 pub(crate) fn push_packet(out: &mut LineBuf, packet: &[u8])
     requires room { length out.old + 2 * length packet.now + 2 ≤ LINE_CAPACITY }
@@ -127,7 +127,7 @@ pub(crate) fn push_packet(out: &mut LineBuf, packet: &[u8])
     out.push(b'\n');
 }
 
-// A byte of a datum.
+// Appends a byte of a datum in the form in which it is shown.
 fn push_shown_byte(out: &mut LineBuf, b: u8)
     requires room { length out.old + 4 ≤ LINE_CAPACITY }
     ensures text { out.new ≡ out.old ++ shown_byte b }
@@ -141,7 +141,7 @@ fn push_shown_byte(out: &mut LineBuf, b: u8)
     push_hex_byte(out, b);
 }
 
-/// A datum, as it is shown.
+/// Appends a datum in the form in which it is shown.
 pub(crate) fn push_shown(out: &mut LineBuf, body: &[u8])
     requires room { length out.old + 4 * length body.now ≤ LINE_CAPACITY }
     ensures text { out.new ≡ out.old ++ flat_map shown_byte body.now }
@@ -152,7 +152,8 @@ pub(crate) fn push_shown(out: &mut LineBuf, body: &[u8])
     }
 }
 
-/// The members of a set, by rising address, joined by commas.
+/// Appends the members of a set, in ascending order of address, joined by commas, or a hyphen if
+/// there are none.
 pub(crate) fn push_set(out: &mut LineBuf, mesh: &Mesh, set: &NodeSet)
     requires members { AreBelow (length mesh.now) set.now }
     requires room { length out.old + SET_WIDTH ≤ LINE_CAPACITY }

@@ -1,5 +1,5 @@
-//! How many bytes the pieces of a line take at most. A sum is the words that always stand there,
-//! without what stands between them, and the width of that.
+//! How many bytes the pieces of a line take at most. A sum has the length of the words that such a
+//! line always has, and the widths of what is between them.
 use mesh_base::{LONGEST_DATUM, LONGEST_PACKET, MOST_NODES};
 use mesh_script::{ADDRESS_WIDTH, LONGEST_WRITTEN, NUMBER_WIDTH};
 
@@ -8,7 +8,7 @@ use mesh_script::{ADDRESS_WIDTH, LONGEST_WRITTEN, NUMBER_WIDTH};
 /// Two addresses with a space between them.
 pub(crate) const TWO_ADDRESSES: usize = ADDRESS_WIDTH + 1 + ADDRESS_WIDTH;
 
-/// The names of a set, each after a comma.
+/// The names of a set's members, each after a comma.
 pub(crate) const SET_WIDTH: usize = MOST_NODES * (1 + ADDRESS_WIDTH);
 
 /// The longest packet that can be read: a route error of 255 destinations.
@@ -16,7 +16,7 @@ pub(crate) const LONGEST_READ: usize = 4 + 8 * 255;
 
 // ---- what an event did
 
-/// A datum behind its label: two addresses, and its bytes, each of which is shown by at most four.
+/// A datum after its label: two addresses, and its bytes, each of which is shown by at most four.
 pub(crate) const DATUM_WIDTH: usize = TWO_ADDRESSES + b" \n".len() + 4 * LONGEST_DATUM;
 
 /// What a turn took.
@@ -34,7 +34,7 @@ pub(crate) const TURN_LINES: usize = TOOK_LINE + DELIVERED_LINE + DROPPED_LINE;
 /// A failed unicast.
 pub(crate) const BROKEN_LINE: usize = b"  broken \n".len() + ADDRESS_WIDTH;
 
-/// To whom a packet was cast, and the two digits of each of its bytes.
+/// To whom a packet was cast, and two digits for each byte of the packet.
 pub(crate) const CAST_LINE: usize = b"  sent many  \n".len() + SET_WIDTH + 2 * LONGEST_PACKET;
 
 /// A failed unicast, and what was cast.
@@ -51,7 +51,7 @@ pub(crate) const LOST_LINE: usize = b"  lost \n".len() + TWO_ADDRESSES;
 
 // ---- tables
 
-/// What an entry says of its route, from its number to its hops.
+/// What an entry says about its route, from its number to its hops.
 pub(crate) const QUALITY_WIDTH: usize = b"  kno val ".len() + 2 * NUMBER_WIDTH;
 
 /// An entry: two addresses, and the set of its precursors.

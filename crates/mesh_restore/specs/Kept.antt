@@ -5,7 +5,7 @@ use Rattle.mesh_checkpoint.specs.Checkpoint.{Waits}
 use Rattle.mesh_checkpoint.specs.Points.{waits_in}
 use Rattle.mesh_restore.specs.Stores.{with_bodies, AreBelow}
 
--- at least so many data were read, these bytes are left, and the data wait for d
+-- at least this many data were read, these bytes are left, and the data now wait for d
 pub record IsFilled (before : Store) (d count : ℕ) (read : Option (List Body × List ℕ))
     (after : Store) (rest : List ℕ) : Type 0 where
   pub found : List Body
@@ -13,7 +13,7 @@ pub record IsFilled (before : Store) (d count : ℕ) (read : Option (List Body �
   pub many : count ≤ length found
   pub stored : after ≡ with_bodies before d found
 
--- what waits for d was read, these bytes are left, and it stands last in the store
+-- what waits for d was read, these bytes are left, and it is the last in the store
 pub record IsKeptFrom (read : Option (Waits × List ℕ)) (before after : Store) (d : ℕ)
     (rest : List ℕ) : Type 0 where
   pub found : Waits

@@ -11,7 +11,7 @@ use Rattle.aodv_node.specs.Restored.{IsRestored}
 use Rattle.mesh_checkpoint.specs.Checkpoint.{Node}
 use Rattle.mesh_checkpoint.specs.Seen.{listed_node}
 
--- node `me` of a mesh of so many nodes, of this variant
+-- node `me` of a mesh of this many nodes, of this variant
 pub record IsNodeAt (variant : Variant) (me size : ℕ) (n : NodeSeen) : Type 0 where
   pub named : (n.core).ip ≡ me
   pub variant_is : (n.core).variant ≡ variant
@@ -21,8 +21,8 @@ pub record IsNodeAt (variant : Variant) (me size : ℕ) (n : NodeSeen) : Type 0 
 abbrev pub ArePrecursorsBelow : ℕ → Table → Type 0
 ArePrecursorsBelow size rt = (d : ℕ) (e : Entry) → maps.get rt d ≡ Some e → AreBelow size e.pre
 
--- what was read of a node are its parts, and these bytes are left: the answer is the node of these
--- parts, or which of them isn't in order
+-- the parts of a node were read, and these bytes are left; the answer is the node with these parts,
+-- or which of them isn't in order
 pub record IsNodeRead (variant : Variant) (me size : ℕ) (read : Option (Node × List ℕ))
     (answer : Result NodeSeen Unfit) (rest : List ℕ) : Type 0 where
   pub parts : NodeSeen

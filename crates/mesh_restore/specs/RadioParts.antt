@@ -10,14 +10,14 @@ use Rattle.mesh_checkpoint.specs.Formats.{Format, number, seq}
 use Rattle.mesh_checkpoint.specs.Checkpoint.{Link, links, copies}
 use Rattle.mesh_checkpoint.specs.Points.{links_of}
 
--- the link of this pair, which stands or has stood, came to the others
+-- the link of this pair was added to the others, as one that stands or as one that has stood
 pub record IsLinkKept (before after : RadioState) (p : ℕ × ℕ) (stands : Bool) : Type 0 where
   pub ever : after.ever ≡ sets.insert before.ever p
   pub here : sets.contains after.links p ≡ stands
   pub elsewhere : (q : ℕ × ℕ) → q ≢ p → sets.contains after.links q ≡ sets.contains before.links q
   pub others : after ≡ record before { links = after.links; ever = after.ever }
 
--- something was read, and these bytes are left
+-- links were read, and these bytes are left
 pub record ArePassed (read : Option (List Link × List ℕ)) (rest : List ℕ) : Type 0 where
   pub found : List Link
   pub read_is : read ≡ Some (found, rest)
@@ -33,8 +33,8 @@ abbrev pub IsFlown : RadioState → RadioState → Flying → Bool → Type 0
 IsFlown before after c true = (c.from ≢ c.to) × (after ≡ with_copy before c)
 IsFlown before after c false = (c.from ≡ c.to) × (after ≡ before)
 
--- the copies were read, and these bytes are left. Where none is from a node to itself, they are all
--- in flight; nothing but the flight has changed
+-- the copies were read, and these bytes are left. If none is from a node to itself, they are all in
+-- flight; nothing but the copies in flight has changed
 pub record AreCopiesRead (read : Option (List Flying × List ℕ)) (before after : RadioState)
     (apart : Bool) (rest : List ℕ) : Type 0 where
   pub found : List Flying
@@ -53,8 +53,8 @@ abbrev pub radio_part : ℕ → Format RadioPart
 radio_part nodes =
     seq (links nodes) λ _. seq (number w64 1 (GREATEST_NEXT_ID + 1)) λ next. copies nodes next
 
--- the radio has what was read, and these bytes are left. Where no copy is from a node to itself,
--- they are all in flight
+-- the radio has the links and the next id that were read, and these bytes are left. If no copy is
+-- from a node to itself, the copies are all in flight
 pub record IsRadioPartRead (nodes : ℕ) (read : Option (RadioPart × List ℕ)) (radio : RadioState)
     (apart : Bool) (rest : List ℕ) : Type 0 where
   pub found : List Flying

@@ -16,6 +16,6 @@ with_bodies store d [] = store
 with_bodies store d (b ∷ bs) =
     maps.insert store d (record { needs_request = true; bodies = b ∷ bs })
 
--- the store where what waits for d needs a request, or not
+-- the store in which what waits for d needs a request as before, or needs none
 abbrev pub with_need : Store → ℕ → Bool → Store
 with_need store d needs = if needs then store else unset store d

@@ -34,7 +34,7 @@ fn copy(alloc: Global, bytes: &[u8], nodes: u32, next: u64) -> Result<(Flying, &
     Ok((copy, rest))
 }
 
-// A copy comes into the radio, unless it is from a node to itself. Whether it isn't is answered.
+// Puts a copy into the radio, unless it is from a node to itself. Answers whether it was put.
 fn fly(radio: &mut Radio, copy: Flying) -> Result<bool, NoMemory>
     requires some { 1 ≤ copy.id }
     requires old { copy.id < radio.old.next_copy }
@@ -59,8 +59,8 @@ fn both(first: bool, second: bool) -> bool
     first && second
 }
 
-/// So many copies, by rising id, come into the radio, where none was. Whether none is from a node
-/// to itself, and the bytes behind them, are answered.
+/// Puts `count` copies, by rising id, into a radio that has none, without those from a node to
+/// itself. Answers whether there was no such copy, and the bytes after all of them.
 pub(crate) fn fly_all<'b>(
     alloc: Global,
     radio: &mut Radio,

@@ -10,7 +10,7 @@ use std::alloc::{AllocError, AllocFailed};
 pub enum ReadError {
     /// The bytes don't begin with such a part.
     Spelling,
-    /// Memory was asked for and not found.
+    /// Memory was asked for, and there wasn't enough.
     NoMemory,
 }
 

@@ -14,7 +14,7 @@ use mesh_checkpoint::numbers::number32;
 use mesh_checkpoint::reading::{ItemView, read_item};
 use std::alloc::Global;
 
-// The item with bytes of its own.
+// The item, with a copy of its bytes.
 fn keep(alloc: Global, item: ItemView<'_>) -> Result<Item, NoMemory>
     requires { HasDatum item }
     ensures value { IfOk result (λ x. x ≡ item_of item.entry) }
@@ -44,7 +44,7 @@ fn item(alloc: Global, bytes: &[u8], nodes: u32) -> Result<(Item, &[u8]), ReadEr
     Ok((item, rest))
 }
 
-// So many items.
+// `count` items, and the bytes after them.
 fn items(alloc: Global, count: u32, bytes: &[u8], nodes: u32) -> Result<(Inbox, &[u8]), ReadError>
     ensures { Reads (λ x. (x.0.items, x.1.now)) result
         (get_times (model.item nodes).get count bytes.now) }
@@ -60,7 +60,7 @@ fn items(alloc: Global, count: u32, bytes: &[u8], nodes: u32) -> Result<(Inbox, 
     Ok((inbox, rest))
 }
 
-/// The inbox at the start of the bytes, in a mesh of so many nodes, and the bytes behind it.
+/// The inbox at the start of the bytes, in a mesh of this many nodes, and the bytes after it.
 pub(crate) fn inbox(alloc: Global, bytes: &[u8], nodes: u32) -> Result<(Inbox, &[u8]), ReadError>
     ensures { Reads (λ x. (x.0.items, x.1.now)) result ((model.inbox nodes).get bytes.now) }
 {

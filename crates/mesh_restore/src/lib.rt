@@ -1,5 +1,5 @@
-//! The parts of a run, read from its checkpoint: the mesh, each node, and what is in the
-//! air. Each part is made of what a reader of `mesh_checkpoint` yields.
+//! The parts of a run, read from its checkpoint: the mesh, each node, and the links with the copies
+//! in flight. Each part is made from what a reader of `mesh_checkpoint` yields.
 #![tactic(auto)]
 
 mod copies;

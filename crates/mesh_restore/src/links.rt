@@ -9,7 +9,7 @@ ghost use Rattle.mesh_restore.specs.RadioParts.{IsLinkKept, AreLinksRead, ArePas
 use mesh_checkpoint::reading::{Link, read_link, rise};
 use mesh_radio::Radio;
 
-/// The bytes behind so many links, by rising pair.
+/// The bytes after `count` links, which come by rising pair.
 pub(crate) fn behind_links(count: u16, bytes: &[u8], nodes: u32) -> Option<&[u8]>
     requires { nodes ≤ MOST_NODES }
     ensures { let read = get_rising model.link_key (model.link nodes).get count 0 bytes.now in
@@ -25,7 +25,7 @@ pub(crate) fn behind_links(count: u16, bytes: &[u8], nodes: u32) -> Option<&[u8]
     Some(rest)
 }
 
-// A link that has never stood stands, or has stood.
+// Makes a link that has never stood, and cuts it again unless it is to stand.
 fn keep(radio: &mut Radio, link: Link)
     requires rising { link.a < link.b }
     requires below { link.b < radio.old.size }
@@ -39,8 +39,8 @@ fn keep(radio: &mut Radio, link: Link)
     radio.cut(link.a, link.b);
 }
 
-/// So many links, by rising pair, come to stand or to have stood, where none did. The bytes behind
-/// them are answered.
+/// Puts `count` links, by rising pair, into a radio in which none has ever stood: each of them
+/// stands, or has stood. Answers the bytes after them.
 pub(crate) fn link_all<'b>(
     radio: &mut Radio,
     count: u16,

@@ -11,20 +11,20 @@ use mesh_checkpoint::NODES_END;
 use mesh_checkpoint::numbers::number16;
 use mesh_checkpoint::reading::{Station, read_station, rise};
 
-// One more node, whose address is above those of all others.
+// Adds a node, whose address is above those of all others.
 fn append(mesh: &mut Mesh, station: Station)
     requires first { 1 ≤ station.first }
     requires last { AllByRecursion (λ p. p.0 < station.address) mesh.old }
     requires few { length mesh.old < MOST_NODES }
     ensures { mesh.new ≡ mesh.old ++ (station.address, station.first) ∷ [] }
 {
-    // It says that the addresses rise.
+    // Its contract says that the addresses rise.
     let _count = mesh.len();
     // It isn't refused: the address is new, and there is room.
     let _added = mesh.add(Addr(station.address), station.first);
 }
 
-// So many nodes, by rising address.
+// `count` nodes, by rising address, and the bytes after them.
 fn stations(count: u16, bytes: &[u8]) -> Option<(Mesh, &[u8])>
     requires { count ≤ MOST_NODES }
     ensures { Gives (λ x. (x.0, x.1.now)) result
@@ -42,7 +42,7 @@ fn stations(count: u16, bytes: &[u8]) -> Option<(Mesh, &[u8])>
     Some((mesh, rest))
 }
 
-/// The mesh at the start of the bytes, and the bytes behind it.
+/// The mesh at the start of the bytes, and the bytes after it.
 pub fn read_mesh(bytes: &[u8]) -> Option<(Mesh, &[u8])>
     ensures { Gives (λ x. (x.0, x.1.now)) result (model.mesh.get bytes.now) }
 {

@@ -15,8 +15,8 @@ use mesh_checkpoint::END32;
 use mesh_checkpoint::numbers::number32;
 use std::alloc::Global;
 
-/// Node `me` of the mesh, of this variant, at the start of the bytes, and the bytes behind it.
-/// Where its parts are no node's, it is said which of them isn't in order.
+/// Node `me` of the mesh, of this variant, at the start of the bytes, and the bytes after it. If
+/// its parts don't make a node, the answer is which of them isn't in order.
 pub fn read_node<'b>(
     alloc: Global,
     mesh: &Mesh,

@@ -12,10 +12,10 @@ use mesh_checkpoint::{END16, END32, GREATEST_NEXT_ID};
 use mesh_radio::Radio;
 use std::alloc::Global;
 
-/// The links and the flight at the start of the bytes, in a mesh of so many nodes; whether no copy
-/// is from a node to itself (such a one isn't put into the radio); and the bytes behind them. The
-/// links are read twice, since the id of the next copy, with which a radio is made, stands behind
-/// them.
+/// A radio with the links and the copies in flight at the start of the bytes, in a mesh of this
+/// many nodes; whether no copy is from a node to itself (such a copy isn't put into the radio); and
+/// the bytes after them. The links are read twice, since a radio is made with the id of the next
+/// copy, which comes after them.
 pub fn read_radio(
     alloc: Global,
     bytes: &[u8],

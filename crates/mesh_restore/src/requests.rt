@@ -12,7 +12,7 @@ use mesh_checkpoint::numbers::number32;
 use mesh_checkpoint::reading::read_request;
 use std::alloc::Global;
 
-// So many requests, by rising originator and id.
+// `count` requests, by rising originator and id, and the bytes after them.
 fn pairs(alloc: Global, count: u32, bytes: &[u8], nodes: u32) -> Result<(Asked, &[u8]), ReadError>
     ensures value { Reads (λ x. (pairs_in x.0.pairs, x.1.now)) result
         (get_rising model.request_key (model.request nodes).get count 0 bytes.now) }
@@ -37,7 +37,7 @@ fn pairs(alloc: Global, count: u32, bytes: &[u8], nodes: u32) -> Result<(Asked, 
     Ok((asked, rest))
 }
 
-/// The requests at the start of the bytes, in a mesh of so many nodes, and the bytes behind them.
+/// The requests at the start of the bytes, in a mesh of this many nodes, and the bytes after them.
 pub(crate) fn requests(alloc: Global, bytes: &[u8], nodes: u32) -> Result<(Asked, &[u8]), ReadError>
     ensures value { Reads (λ x. (pairs_in x.0.pairs, x.1.now)) result
         ((model.asked_format nodes).get bytes.now) }

@@ -19,7 +19,7 @@ use mesh_checkpoint::numbers::number16;
 use mesh_checkpoint::reading::{read_route_head, rise};
 use std::alloc::Global;
 
-// So many nodes, by rising index.
+// `count` nodes, by rising index, and the bytes after them.
 fn precursors(count: u16, bytes: &[u8], nodes: u32) -> Option<(NodeSet, &[u8])>
     requires { nodes ≤ MOST_NODES }
     ensures value { Gives (λ x. (member_list x.0, x.1.now)) result
@@ -38,7 +38,7 @@ fn precursors(count: u16, bytes: &[u8], nodes: u32) -> Option<(NodeSet, &[u8])>
     Some((found, rest))
 }
 
-// An entry and its destination.
+// The destination of an entry, the entry, and the bytes after it.
 fn route(bytes: &[u8], nodes: u32) -> Option<(usize, Entry, &[u8])>
     requires { nodes ≤ MOST_NODES }
     ensures value { Gives (λ x. (route_of (x.0, x.1), x.2.now)) result
@@ -61,7 +61,7 @@ fn route(bytes: &[u8], nodes: u32) -> Option<(usize, Entry, &[u8])>
     Some((head.dest, entry, rest))
 }
 
-// So many entries, by rising destination.
+// `count` entries, by rising destination, and the bytes after them.
 fn rows(alloc: Global, count: u16, bytes: &[u8], nodes: u32) -> Result<(RowTable, &[u8]), ReadError>
     requires { nodes ≤ MOST_NODES }
     ensures value { Reads (λ x. (routes_in x.0.entries, x.1.now)) result
@@ -87,7 +87,7 @@ fn rows(alloc: Global, count: u16, bytes: &[u8], nodes: u32) -> Result<(RowTable
     Ok((table, rest))
 }
 
-/// The table at the start of the bytes, in a mesh of so many nodes, and the bytes behind it.
+/// The table at the start of the bytes, in a mesh of this many nodes, and the bytes after it.
 pub(crate) fn table(alloc: Global, bytes: &[u8], nodes: u32) -> Result<(RowTable, &[u8]), ReadError>
     requires { nodes ≤ MOST_NODES }
     ensures value { Reads (λ x. (routes_in x.0.entries, x.1.now)) result

@@ -16,7 +16,7 @@ use mesh_checkpoint::numbers::number16;
 use mesh_checkpoint::reading::{read_datum, read_waits_head};
 use std::alloc::Global;
 
-// So many data for one destination, which had none before. The bytes behind them are answered.
+// Reads `count` data for one destination, which had none before. Answers the bytes after them.
 fn bodies<'b>(
     alloc: Global,
     waiting: &mut Waiting,
@@ -44,7 +44,7 @@ fn bodies<'b>(
     Ok(rest)
 }
 
-// Data that came need a request, unless it is said that they don't.
+// Data that have just come are marked as needing a request. Removes the mark, unless they need one.
 fn settle(waiting: &mut Waiting, dest: usize, needs_request: bool)
     requires { dest < length waiting.old.rooms }
     ensures store { waiting.new.store ≡ with_need waiting.old.store dest needs_request }
@@ -55,7 +55,8 @@ fn settle(waiting: &mut Waiting, dest: usize, needs_request: bool)
     }
 }
 
-// What waits for one destination, which is at least `low`. It and the bytes behind are answered.
+// Reads what waits for one destination, which is at least `low`. Answers the destination and the
+// bytes after its data.
 fn waits<'b>(
     alloc: Global,
     waiting: &mut Waiting,
@@ -82,7 +83,7 @@ fn waits<'b>(
     Ok((head.dest, rest))
 }
 
-// What waits for so many destinations, by rising destination.
+// What waits for `count` destinations, by rising destination, and the bytes after it.
 fn rows(alloc: Global, count: u16, bytes: &[u8], nodes: u32) -> Result<(Waiting, &[u8]), ReadError>
     requires { nodes ≤ MOST_NODES }
     ensures value { Reads (λ x. (waits_in x.0.store, x.1.now)) result
@@ -100,7 +101,7 @@ fn rows(alloc: Global, count: u16, bytes: &[u8], nodes: u32) -> Result<(Waiting,
     Ok((waiting, rest))
 }
 
-/// The store at the start of the bytes, in a mesh of so many nodes, and the bytes behind it.
+/// The store at the start of the bytes, in a mesh of this many nodes, and the bytes after it.
 pub(crate) fn store(alloc: Global, bytes: &[u8], nodes: u32) -> Result<(Waiting, &[u8]), ReadError>
     requires { nodes ≤ MOST_NODES }
     ensures value { Reads (λ x. (waits_in x.0.store, x.1.now)) result

@@ -1,4 +1,4 @@
--- To whom a packet that is cast goes, and what is written of what a router's step did.
+-- To which peers a packet that is cast goes, and what is written about a router's step.
 use Rattle.std.specs.Prelude.{ℕ, ◌+◌, List, [], ◌∷◌, ◌++◌, length, codes, get_or}
 use Rattle.std.specs.Fmt.{decimal}
 use Rattle.mesh_base.specs.Meshes.{Nodes}
@@ -18,15 +18,16 @@ use Rattle.mesh_router.specs.Routers.{Router}
 abbrev pub port_at : PeersSeen → ℕ → ℕ
 port_at p x = get_or p.ports x 0
 
--- a packet goes to a node: a line that says so, and then the datagram
+-- the line that says that a packet goes to a node
 abbrev pub to_line : PeersSeen → ℕ → List ℕ
 to_line p x = line (codes "  to " ++ name_of p.mesh x ++ 32 ∷ decimal (port_at p x))
 
+-- a packet goes to a node: that line, and then the datagram
 abbrev pub sent_to : PeersSeen → List ℕ → ℕ → Log
 sent_to p packet x =
     followed_by (text_log (to_line p x)) (Sent (datagram (port_at p x) packet) ∷ [])
 
--- the same for some nodes, one after another
+-- a packet goes to each of some nodes, one after another
 abbrev pub sent_to_each : PeersSeen → List ℕ → List ℕ → Log
 sent_to_each p packet [] = nothing
 sent_to_each p packet (x ∷ xs) = followed_by (sent_to p packet x) (sent_to_each p packet xs)
@@ -45,13 +46,13 @@ cast_packet mesh (All m) = packet_of mesh m
 abbrev pub cast_log : Router → Cast → Log
 cast_log r cast = sent_to_each r.peers (cast_packet (r.peers).mesh cast) (reached_by r cast)
 
--- a failed unicast, what was cast, and to whom it goes
+-- the log of an effect: a failed unicast, what was cast, and each node to which that goes
 abbrev pub effect_log : Router → Effect → Log
 effect_log r e =
     followed_by (text_log (broken_text (r.peers).mesh e.broken ++ cast_text (r.peers).mesh e.cast))
     (cast_log r e.cast)
 
--- the router once its node has reacted, and has this queue
+-- the router after its node's reaction, with this queue
 abbrev pub after_reaction : Router → List Item → Reaction → Router
 after_reaction r queue reaction = record r {
   core = reaction.core;

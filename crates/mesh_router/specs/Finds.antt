@@ -2,11 +2,11 @@
 use Rattle.std.specs.Prelude.{◌≡◌, List, [], ◌∷◌, Option, Some, None, map, ⊤}
 use Rattle.mesh_link.specs.Datagrams.{Datagram}
 
--- a datagram, or that nothing is there then
+-- a datagram, or None if nothing is there at that moment
 abbrev pub Find : Type 0
 Find = Option Datagram
 
--- the next of these. After the last, nothing is there
+-- the next of these finds; after the last of them nothing is there
 abbrev pub next_find : List Find → Find
 next_find [] = None
 next_find (f ∷ fs) = f
@@ -15,22 +15,22 @@ abbrev pub later_finds : List Find → List Find
 later_finds [] = []
 later_finds (f ∷ fs) = fs
 
--- these are the next that are found
+-- the finds of the second list are the next of the first
 abbrev pub AreNext : List Find → List Find → Type 0
 AreNext all [] = ⊤
 AreNext all (f ∷ fs) = (next_find all ≡ f) × AreNext (later_finds all) fs
 
--- what is left to be found after as many as these
+-- what is left of the first list once as many finds are taken as the second has
 abbrev pub left_after : List Find → List Find → List Find
 left_after all [] = all
 left_after all (f ∷ fs) = left_after (later_finds all) fs
 
--- all datagrams that have arrived
+-- the finds of datagrams that have arrived
 abbrev pub arrivals : List Datagram → List Find
 arrivals ds = map Some ds
 
--- calls have found these: where the datagrams that have arrived are told, they are the next of
--- them, and the others are left
+-- calls have found these: if it is known which datagrams have arrived, these are the next of them,
+-- and the others are left
 pub record AreOf (ds : List Datagram) (now : Option (List Datagram)) (found : List Find)
     : Type 0 where
   pub left : List Datagram

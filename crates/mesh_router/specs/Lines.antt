@@ -23,8 +23,8 @@ use Rattle.mesh_router.specs.Turns.{StepOutcome, StepDone, StepFull, log_before,
 use Rattle.mesh_router.specs.Finds.{Find}
 use Rattle.mesh_router.specs.Polls.{PollOutcome, polls_of}
 
--- what a line comes to: its log, the next state, and what is left to be found; why it is
--- refused; or its log before a counter is full, and the words of what was refused for it
+-- what a line comes to: its log, the next state, and what is left to be found; why the line is
+-- refused; or its log before a counter is full, and the words of what the full counter stopped
 pub data LineOutcome : Type 0 where
   On : Log → RunState → List Find → LineOutcome
   Refused : BadWhy → LineOutcome
@@ -34,7 +34,8 @@ pub data LineOutcome : Type 0 where
 abbrev pub words_at : Stage → AcceptedLine → List ℕ
 words_at stage l = words_of (peers_in stage).mesh l
 
--- the words of what is refused for a full counter: a `turn` line may have done some of its turns
+-- the words of what a full counter stops: `turn` without its count, since some of the turns may
+-- have been done, or all words of any other line
 abbrev pub refused_in : Nodes → AcceptedLine → List ℕ
 refused_in mesh (Turns count) = codes "turn"
 refused_in mesh others = words_of mesh others
@@ -46,7 +47,7 @@ refused_words stage l = refused_in (peers_in stage).mesh l
 abbrev pub join_outcome : RunState → AcceptedLine → Stage → List Find → LineOutcome
 join_outcome m l next finds = On (text_log (line (words_at m.stage l))) (counted_at m next) finds
 
--- a command that makes the router act
+-- a command, by what it makes the router do
 abbrev pub act_outcome : RunState → AcceptedLine → List Find → StepOutcome → LineOutcome
 act_outcome m l finds (StepDone log next) = On log (counted_at m (Running next)) finds
 act_outcome m l finds (StepFull log field) = Full log (refused_words m.stage l) field
@@ -59,8 +60,8 @@ polled_line m l p =
 
 -- ---- steps that cast nothing
 
--- a peer comes into range or leaves it, below its line; the line is idle where it is there already,
--- or isn't there
+-- a peer comes into range or leaves it, below its line; the line is idle if the peer is in range
+-- already, or isn't in range
 abbrev pub range_outcome : Router → List ℕ → Bool → NodeIds → StepOutcome
 range_outcome r words changes range =
     if changes then StepDone (text_log (line words)) (record r { range = range })
@@ -76,7 +77,7 @@ show_outcome r words =
 
 -- ---- all lines
 
--- what a command makes the router do, whose line has these words. The others leave it as it is
+-- what a command whose line has these words makes the router do. Other lines leave it as it is
 unfoldable pub step_of : Router → List ℕ → AcceptedLine → StepOutcome
 step_of r words (Up x) =
     range_outcome r words (not (sets.contains r.range x)) (sets.insert r.range x)
@@ -105,7 +106,7 @@ abbrev pub outcome_of_read : RunState → Result AcceptedLine LineFault → List
 outcome_of_read m (Ok l) finds = outcome_of_line m l finds
 outcome_of_read m (Err fault) finds = Refused (Fault fault)
 
--- why a line that goes past a limit is refused
+-- the reason for which a line that goes past a limit is refused
 abbrev pub why_past : Limit → BadWhy
 why_past Line = TooLong
 why_past Input = TooMuch

@@ -2,26 +2,26 @@
 use Rattle.std.specs.Prelude.{ℕ, List, [], ◌∷◌, ◌++◌, map}
 use Rattle.mesh_link.specs.Datagrams.{Datagram}
 
--- a byte of text is written, or a datagram is sent to its port
+-- a byte of text that is written, or a datagram that is sent to its port
 pub data LogItem : Type 0 where
   Byte : ℕ → LogItem
   Sent : Datagram → LogItem
 
--- what a router has written and sent, one after another
+-- what a router has written and sent, in order
 abbrev pub Log : Type 0
 Log = List LogItem
 
 abbrev pub nothing : Log
 nothing = []
 
--- this text
+-- the log that writes this text
 unfoldable pub text_log : List ℕ → Log
 text_log text = map Byte text
 
 abbrev pub followed_by : Log → Log → Log
 followed_by a b = a ++ b
 
--- its text, and its datagrams
+-- the text of a log, and its datagrams
 unfoldable pub text_of : Log → List ℕ
 text_of [] = []
 text_of (Byte b ∷ more) = b ∷ text_of more

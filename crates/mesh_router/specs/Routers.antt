@@ -1,4 +1,4 @@
--- A router on a socket, and where the run of its script stands.
+-- A router on a socket, and the state of its script's run.
 use Rattle.std.specs.Prelude.{ℕ, zero, suc, ◌+◌, Bool, true, false, List, [], length, unwrap_or}
 use Rattle.std.specs.FinSet as sets
 use Rattle.mesh_base.specs.Members.{NodeIds}
@@ -8,8 +8,8 @@ use Rattle.mesh_base.specs.declared.events.Variant.TheVariants.{Base}
 use Rattle.aodv_model.specs.Cores.{Core, opening}
 use Rattle.mesh_peers.specs.Peers.{PeersSeen, no_peers}
 
--- its mesh, with itself and its peers; its core; its queue, with packets as bytes; the peers that
--- are in range; and how many datagrams it has heard, sent and dropped
+-- the router's mesh, with itself and its peers; its core; its queue, with packets as bytes; the
+-- peers in range; and how many datagrams it has heard, sent and dropped
 pub record Router : Type 0 where
   pub peers : PeersSeen
   pub core : Core
@@ -59,7 +59,7 @@ abbrev pub is_running : Stage → Bool
 is_running (Joining p) = false
 is_running (Running r) = true
 
--- where a run stands between two lines, and how many lines were read
+-- the state of a run between two lines: its stage, and how many lines were read
 pub record RunState : Type 0 where
   pub stage : Stage
   pub lines : ℕ
@@ -67,6 +67,6 @@ pub record RunState : Type 0 where
 abbrev pub opening_run_state : RunState
 opening_run_state = record { stage = Joining no_peers; lines = 0 }
 
--- one more line was read, and the run stands there
+-- one more line was read, and the run is at this stage
 abbrev pub counted_at : RunState → Stage → RunState
 counted_at m stage = record { stage = stage; lines = m.lines + 1 }

@@ -17,15 +17,15 @@ use Rattle.mesh_router.specs.Seen.{HasCounts, IsGrown, most_grown}
 use Rattle.mesh_router.specs.Text.{run_after, run_from}
 use Rattle.mesh_router.specs.Output.{IsTold}
 
--- what its sink holds and its link has sent, and what has arrived at the link
+-- what the sink holds and the link has sent, and what has arrived at the link
 abbrev pub outputs_by : {O L : Type 0} → sinks.Ghosts O → links.Ghosts L → Routing O L → Outputs
 outputs_by sink link r = (sink.held r.out.now, link.sent r.link.now)
 
 abbrev pub arrived_by : {O L : Type 0} → links.Ghosts L → Routing O L → Option (List Datagram)
 arrived_by link r = link.arrived r.link.now
 
--- the sink and the link are those that they were, the link is open at its port, and no count of
--- faults fell
+-- the sink and the link are the same ones, the link's port hasn't changed, and no count of faults
+-- fell
 pub record IsKept {O L : Type 0} (sink : sinks.Ghosts O) (link : links.Ghosts L)
     (old new : Routing O L) : Type 0 where
   pub same_out : new.out.ghost_name ≡ old.out.ghost_name
@@ -34,7 +34,7 @@ pub record IsKept {O L : Type 0} (sink : sinks.Ghosts O) (link : links.Ghosts L)
   pub writes : sink.faults old.out.now ≤ sink.faults new.out.now
   pub sends : link.faults old.link.now ≤ link.faults new.link.now
 
--- these lines were done, by what was found, whatever lines come after them
+-- these lines were done by what was found, whatever lines come after them
 pub record HasLed {O L : Type 0} (sink : sinks.Ghosts O) (link : links.Ghosts L)
     (old : Routing O L) (lines : List Piece) (new : Routing O L) : Type 0 where
   pub kept : IsKept sink link old new
@@ -49,7 +49,7 @@ pub record HasLed {O L : Type 0} (sink : sinks.Ghosts O) (link : links.Ghosts L)
   pub grown : IsGrown (most_grown * length lines) (router_in old.at.now.stage)
       (router_in new.at.now.stage)
 
--- the run has ended, and what was answered has its cause
+-- the run has ended, and a fault that is answered is the sink's or the link's and has its cause
 pub record HasAnswered {O L : Type 0} (sink : sinks.Ghosts O) (link : links.Ghosts L)
     (old new : Routing O L) (answer : NodeStatus) : Type 0 where
   pub kept : IsKept sink link old new
@@ -58,7 +58,7 @@ pub record HasAnswered {O L : Type 0} (sink : sinks.Ghosts O) (link : links.Ghos
   pub words : answer ≢ Usage
   pub read : answer ≢ ReadFault
 
--- at this line, whatever lines come after it
+-- the run has ended at this line, whatever lines come after it
 pub record HasStopped {O L : Type 0} (sink : sinks.Ghosts O) (link : links.Ghosts L)
     (old : Routing O L) (piece : Piece) (new : Routing O L) (answer : NodeStatus) : Type 0 where
   pub answered : HasAnswered sink link old new answer
@@ -67,20 +67,20 @@ pub record HasStopped {O L : Type 0} (sink : sinks.Ghosts O) (link : links.Ghost
       (outputs_by sink link new) answer
   pub early : answer ≢ Done
 
--- where the script ends
+-- the run has ended where the script does
 pub record HasFinished {O L : Type 0} (sink : sinks.Ghosts O) (link : links.Ghosts L)
     (old new : Routing O L) (answer : NodeStatus) : Type 0 where
   pub answered : HasAnswered sink link old new answer
   pub told : IsTold (run_from old.at.now []) (arrived_by link old) (arrived_by link new)
       (outputs_by sink link old) (outputs_by sink link new) answer
 
--- where a read failed
+-- a read has failed, and nothing else has changed
 pub record IsCut {O L : Type 0} (old new : Routing O L) (answer : NodeStatus) : Type 0 where
   pub same : new ≡ old
   pub is : answer ≡ ReadFault
 
--- lines of so many bytes, each LF among them, can be done: the link is open, and no count of lines
--- or datagrams gets too large
+-- lines of this many bytes, with their LFs, can be done: the link is open, and no count of lines or
+-- datagrams gets too large
 pub record HasRoomFor {O L : Type 0} (link : links.Ghosts L) (r : Routing O L) (size : ℕ)
     : Type 0 where
   pub open_at : is_some (link.port r.link.now) ≡ true

@@ -1,4 +1,4 @@
--- The laws of a script's lines as they are run.
+-- Laws about a script's lines as they are run.
 use Rattle.std.proofs.Common.{◌≡◌, ℕ, ◌+◌, ◌*◌, ◌≤◌, is_some, List, [], ◌∷◌, ◌++◌, length, length-append, refl, sym, ap, ◌∙◌, subst, append_assoc, arith}
 use Rattle.mesh_io.specs.declared.sink.Sink as sinks
 use Rattle.mesh_link.specs.declared.link.Link as links
@@ -45,7 +45,7 @@ grown_both m n a b c p q = record {
   dropped = (let x = p.dropped in let y = q.dropped in omega arith);
 }
 
--- no lines lead nowhere else
+-- without lines the run stays where it is
 pub stays_there : {O L : Type 0} (sink : sinks.Ghosts O) (link : links.Ghosts L)
     (a : Routing O L) → HasLed sink link a [] a
 stays_there sink link a = record {
@@ -59,7 +59,7 @@ stays_there sink link a = record {
   grown = record { heard = omega arith; sent = omega arith; dropped = omega arith };
 }
 
--- lines and then others lead on
+-- what lines and then others lead to is what all of them lead to
 pub joins_both : {O L : Type 0} (sink : sinks.Ghosts O) (link : links.Ghosts L)
     (a b c : Routing O L) (lines others : List Piece) → HasLed sink link a lines b
     → HasLed sink link b others c → HasLed sink link a (lines ++ others) c
@@ -89,14 +89,14 @@ joins_both sink link a b c lines others p q =
           (router_in b.at.now.stage) (router_in c.at.now.stage) p.grown q.grown);
     }
 
--- no line is empty of bytes
+-- each line has at least one byte, with its LF
 few_lines : (lines : List Piece) → length lines ≤ size_of_pieces lines
 few_lines [] = omega arith
 few_lines (Whole line ∷ lines) = let h = few_lines lines in omega arith
 few_lines (Long ∷ lines) = let h = few_lines lines in omega arith
 few_lines (Beyond ∷ lines) = let h = few_lines lines in omega arith
 
--- what lines leave of the room
+-- the room that lines leave for others
 pub leaves_room : {O L : Type 0} (sink : sinks.Ghosts O) (link : links.Ghosts L)
     (a b : Routing O L) (lines : List Piece) (all few : ℕ) → HasRoomFor link a all
     → HasLed sink link a lines b → size_of_pieces lines + few ≤ all → HasRoomFor link b few

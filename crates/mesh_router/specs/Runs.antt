@@ -1,4 +1,4 @@
--- What was told of a turn, of a command, and of datagrams that were received.
+-- What was reported of a turn, of a command, and of datagrams that were received.
 use Rattle.std.specs.Prelude.{◌≡◌, ℕ, suc, List, [], ◌∷◌, Bool, true, false, Option, Some, None, Result, Ok, Err, MatchResult, ⊤}
 use Rattle.std.specs.Io.KnownBytes.{Appends}
 use Rattle.mesh_base.specs.declared.events.Counter.{Counter}
@@ -20,19 +20,19 @@ use Rattle.mesh_router.specs.Outputs.{Outputs, Adds, AddsPrefix}
 
 -- ---- a turn
 
--- all that a turn says
+-- the whole log of a turn
 abbrev pub log_by : TurnOutcome → Log
 log_by turns.Idle = text_log idle_line
 log_by (turns.Done log next) = log
 log_by (turns.Full field) = nothing
 
--- it was done and told
+-- a turn was done and reported
 pub record IsTurnDone (t : TurnOutcome) (new : Router) (before now : Outputs) : Type 0 where
   pub log : Log
   pub is : t ≡ turns.Done log new
   pub adds : Adds before now log
 
--- there was none to do
+-- there was no turn to do
 pub record IsTurnIdle (t : TurnOutcome) (old new : Router) (before now : Outputs) : Type 0 where
   pub is : t ≡ turns.Idle
   pub same : new ≡ old
@@ -53,7 +53,7 @@ IsTurnRun t old before now new (Err stop.NoMemory) = AddsPrefix before now (log_
 
 -- ---- a command
 
--- all that a command says
+-- the whole log of a command
 abbrev pub log_in : StepOutcome → Log
 log_in (StepDone log next) = log
 log_in (StepFull log field) = log
@@ -80,7 +80,7 @@ IsStepRun s before now new result =
 
 -- ---- datagrams that are received
 
--- a datagram of that port with these bytes was taken, and that was written
+-- a datagram with these bytes from this port was taken and reported, or reported in part
 abbrev pub IsTaken : Router → ℕ → List ℕ → Option (List ℕ) → Option (List ℕ) → Router
     → Result (Unit {0}) Stop → Type 0
 IsTaken old port bytes before now new result =
@@ -89,7 +89,7 @@ IsTaken old port bytes before now new result =
     × Appends before now (found_text old port bytes (at_port old.peers port)))
     (λ _. AppendsPrefix before now (found_text old port bytes (at_port old.peers port)))
 
--- a datagram was found, and what was done with it was told
+-- a datagram was found, and what was done with it was reported
 pub record IsFoundOne (old new : Router) (arrived left : Option (List Datagram))
     (before now : Outputs) : Type 0 where
   pub datagram : Datagram
@@ -104,7 +104,7 @@ pub record IsFoundNone (old new : Router) (arrived left : Option (List Datagram)
   pub same : new ≡ old
   pub adds : Adds before now (text_log none_line)
 
--- these were found, and what was done with them was told
+-- these were found, and what was done with them was reported
 pub record IsPolled (count : ℕ) (old new : Router) (arrived left : Option (List Datagram))
     (before now : Outputs) : Type 0 where
   pub found : List Find
@@ -114,7 +114,7 @@ pub record IsPolled (count : ℕ) (old new : Router) (arrived left : Option (Lis
   pub is : (finds : List Find) → AreNext finds found
       → polls_of count old finds ≡ poll_outcome log new (left_after finds found)
 
--- these were found, and what was done with them was told in part
+-- these were found, and what was done with them was reported in part
 pub record IsPolledInPart (count : ℕ) (old : Router) (arrived left : Option (List Datagram))
     (before now : Outputs) : Type 0 where
   pub found : List Find
@@ -128,7 +128,7 @@ IsPollRun count old arrived left before now new result =
     MatchResult result (λ _. IsPolled count old new arrived left before now)
     (λ _. IsPolledInPart count old arrived left before now)
 
--- one call that receives, the first of some
+-- one receive call, the first of one or more
 abbrev pub IsPollStep : Router → Option (List Datagram) → Option (List Datagram) → Outputs → Outputs
     → Router → Result Bool Stop → Type 0
 IsPollStep old arrived left before now new (Ok true) =
@@ -155,7 +155,7 @@ pub record IsPollLineInPart (count : ℕ) (words : List ℕ) (old : Router)
   pub told : (finds : List Find) → AreNext finds found
       → AddsPrefix before now (followed_by (text_log (line words)) (polls_of count old finds).log)
 
--- that stops it
+-- the stop isn't a full counter
 abbrev pub IsNotFull : Stop → Type 0
 IsNotFull (stop.Full field) = ⊥
 IsNotFull others = ⊤
@@ -168,13 +168,13 @@ IsPollLine count words old arrived left before now new result =
 
 -- ---- a line
 
--- all that a line says
+-- the whole log of a line
 abbrev pub log_of : LineOutcome → Log
 log_of (On log next left) = log
 log_of (Refused why) = nothing
 log_of (Full log words field) = log
 
--- it was done and told, by what was found, and the run goes on from the next state
+-- a line was done and reported, by what was found, and the run goes on from the next state
 pub record IsLineDone (k : List Find → LineOutcome) (next : RunState)
     (arrived left : Option (List Datagram)) (before now : Outputs) : Type 0 where
   pub found : List Find
@@ -192,7 +192,7 @@ pub record IsLineFull (k : List Find → LineOutcome) (words : List ℕ) (field 
   pub is : (finds : List Find) → k finds ≡ Full log words field
   pub same : left ≡ arrived
 
--- it was told in part
+-- a line was reported in part
 pub record IsLineInPart (k : List Find → LineOutcome) (arrived left : Option (List Datagram))
     (before now : Outputs) : Type 0 where
   pub found : List Find

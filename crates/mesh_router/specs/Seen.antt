@@ -1,4 +1,4 @@
--- What is seen of a router of the code, and what every one keeps.
+-- What is seen of a router of the code, and what holds of every one.
 use Rattle.std.specs.Prelude.{◌≡◌, ◌≤◌, ◌+◌, ◌*◌, ◌^◌, ℕ, length, List, Some, refl}
 use Rattle.std.specs.Coded.{Coded, code_by, coded×, coded_ℕ, coded_list}
 use Rattle.std.specs.FinSet as sets
@@ -13,14 +13,15 @@ use Rattle.mesh_peers.specs.Peers.{PeersSeen, peers_code}
 use Rattle.mesh_router.specs.Routers.{Router}
 use Rattle.mesh_router.specs.Peers.{ArePeers}
 
--- the node is the router's own, its mesh is that of the peers, and those in range are peers
+-- the node is the router's own, it is made for a mesh as large as that of the peers, and the nodes
+-- in range are peers
 pub record IsSound (p : PeersSeen) (node : NodeSeen) (near : NodeIds) : Type 0 where
   pub me : p.me ≡ Some (node.core).ip
   pub size : node.size ≡ length p.mesh
   pub range : ArePeers p near
 
--- a line may be done while no count is above this, and each part of one while none is above twice
--- as much
+-- a line may be done while no count is above this, and each part of a line while no count is above
+-- twice as much
 abbrev pub most_counted_before_line : ℕ
 most_counted_before_line = 2 ^ 61
 
@@ -39,7 +40,8 @@ pub record IsGrown (n : ℕ) (old new : Router) : Type 0 where
   pub sent : new.sent ≤ old.sent + n
   pub dropped : new.dropped ≤ old.dropped + n
 
--- the most that a line can add to a count: so many turns, each with a datagram to every node
+-- the most that a line can add to a count: all turns that one line may do, each with a datagram to
+-- every node
 abbrev pub most_grown : ℕ
 most_grown = MOST_NODES * MOST_AT_ONCE
 

@@ -12,7 +12,7 @@ use Rattle.mesh_router.specs.Turns as turns
 use Rattle.mesh_router.specs.Turns.{TurnOutcome, next_turn}
 use Rattle.mesh_router.specs.Finds.{Find, AreFound}
 
--- the next turn needs memory: a datum for another node is to wait, or a request to be kept
+-- the next turn may need memory: a datum for another node is to wait, or a request to be kept
 pub record IsTurnShort (r : Router) : Type 0 where
   pub front : Item
   pub rest : List Item
@@ -20,12 +20,12 @@ pub record IsTurnShort (r : Router) : Type 0 where
   pub readable : IsReadableItem (r.peers).mesh front
   pub needs : needs_memory r.core (item_in (r.peers).mesh front) ≡ true
 
--- this holds of the router after a turn that was done
+-- the turn is done, and this holds of the router after it
 abbrev pub HoldsAfter : TurnOutcome → (Router → Type 0) → Type 0
 HoldsAfter (turns.Done log next) holds = holds next
 HoldsAfter others holds = ⊥
 
--- one of so many turns needs memory
+-- one of this many turns may need memory
 abbrev pub AreTurnsShort : ℕ → Router → Type 0
 AreTurnsShort zero r = ⊥
 AreTurnsShort (suc most) r =
@@ -38,7 +38,7 @@ IsStepShort r (Turns count) = AreTurnsShort count r
 IsStepShort r (Asks d) = IsAskShort r.core d
 IsStepShort r others = ⊥
 
--- the last that was found is a datagram of a peer, which is to join the queue
+-- the last find is a peer's datagram, which is to join the queue
 pub record IsPollShort (p : PeersSeen) (arrived left : Option (List Datagram)) : Type 0 where
   pub before : List Find
   pub datagram : Datagram

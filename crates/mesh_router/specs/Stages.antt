@@ -1,4 +1,4 @@
--- Where a run of the code stands, as the definitions have it.
+-- The definitions' stage for the code's, and codes of stages and run states.
 use Rattle.std.specs.Prelude.{◌≡◌, ◌⊎◌, ℕ, refl}
 use Rattle.std.proofs.Common.{inl, inr}
 use Rattle.std.specs.Coded.{Coded, code_by, coded×, coded⊎, coded_ℕ}
@@ -8,7 +8,7 @@ use Rattle.mesh_router.specs.declared.point.Stage.TheVariants as stages
 use Rattle.mesh_router.specs.Routers.{Router, Stage, Joining, Running, RunState}
 use Rattle.mesh_router.specs.Seen.{router_code}
 
--- the stage that a stage of the code shows
+-- the definitions' stage for the code's stage
 abbrev pub stage_of : code.Stage → Stage
 stage_of (stages.Joining peers) = Joining peers
 stage_of (stages.Running router) = Running router

@@ -15,20 +15,20 @@ use Rattle.mesh_router.specs.Routers.{Router, router_in, RunState, opening_run_s
 use Rattle.mesh_router.specs.Finds.{Find}
 use Rattle.mesh_router.specs.Lines.{LineOutcome, On, Refused, Full, outcome_of_piece}
 
--- its log, the last line with it, and what it came to
+-- a run: its log, which includes the last line, and its verdict
 pub record Run : Type 0 where
   pub log : Log
   pub verdict : Verdict
 
 -- ---- the last line
 
--- of a whole script
+-- the last line of a run that has read its whole script
 abbrev pub counts_line : Router → List ℕ
 counts_line r =
     line (label_number (codes "done heard ") r.heard ++ label_number (codes " sent ") r.sent
     ++ label_number (codes " dropped ") r.dropped)
 
--- of a run in which a counter is full at this line
+-- the last line of a run in which a counter is full at the line of this number
 abbrev pub full_line : ℕ → List ℕ → Counter → List ℕ
 full_line number words field =
     line (label_number (codes "full line ") number ++ codes ": " ++ words ++ codes ": "
@@ -55,7 +55,7 @@ overfull_run m log words field = record {
 abbrev pub run_after : Log → Run → Run
 run_after log run = record run { log = followed_by log run.log }
 
--- what a line came to, and then the rest of the run from the next state on
+-- the run of a line with this outcome, and of the rest from the next state on
 abbrev pub goes_on : RunState → LineOutcome → (RunState → List Find → Run) → Run
 goes_on m (On log n finds) others = run_after log (others n finds)
 goes_on m (Refused why) others = refused_run m why
@@ -67,6 +67,6 @@ run_from m [] finds = finished_run m
 run_from m (piece ∷ pieces) finds =
     goes_on m (outcome_of_piece m piece finds) (λ n left. run_from n pieces left)
 
--- what a router writes and sends for this script, where this is found
+-- what a router writes and sends for this script if its receive calls find this, and the verdict
 unfoldable pub run_of_script : List ℕ → List Find → Run
 run_of_script script finds = run_from opening_run_state (pieces_of_input script) finds

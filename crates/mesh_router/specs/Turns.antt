@@ -48,7 +48,7 @@ pub data TurnOutcome : Type 0 where
   Done : Log → Router → TurnOutcome
   Full : Counter → TurnOutcome
 
--- the front packet, which came from this node, is taken, and all else stays
+-- the front packet, which came from this node, is dropped, and all else stays
 abbrev pub dropped_turn : Router → List Item → ℕ → List ℕ → TurnOutcome
 dropped_turn r rest from why =
     Done (text_log (drop_line (r.peers).mesh from why))
@@ -94,8 +94,8 @@ next_turn r = turn_on r r.queue
 
 -- ---- steps
 
--- what comes of a command that makes the router act: its log, and the router then; or, after its
--- log, a counter is full
+-- what comes of a command that makes the router act: its log, and the router then; or its log
+-- before a counter is full
 pub data StepOutcome : Type 0 where
   StepDone : Log → Router → StepOutcome
   StepFull : Log → Counter → StepOutcome
@@ -107,18 +107,18 @@ log_before log (StepFull more field) = StepFull (followed_by log more) field
 abbrev pub idle_line : List ℕ
 idle_line = line (codes "  idle")
 
--- a turn, and then others
+-- a turn, and then others: an empty queue or a full counter ends them
 abbrev pub with_others : Router → TurnOutcome → (Router → StepOutcome) → StepOutcome
 with_others r Idle others = StepDone (text_log idle_line) r
 with_others r (Done log next) others = log_before log (others next)
 with_others r (Full field) others = StepFull nothing field
 
--- up to so many turns
+-- up to this many turns
 unfoldable pub turns_of : ℕ → Router → StepOutcome
 turns_of zero r = StepDone nothing r
 turns_of (suc most) r = with_others r (next_turn r) (λ next. turns_of most next)
 
--- a send or a request of the node's own, below its line. Where a counter is full nothing is written
+-- a send or a request of the node's own, below its line. If a counter is full, nothing is written
 abbrev pub act_of : Router → List ℕ → Bool → Option Counter → Reaction → StepOutcome
 act_of r words false full reaction = StepDone (text_log (line words ++ idle_line)) r
 act_of r words true (Some field) reaction = StepFull nothing field

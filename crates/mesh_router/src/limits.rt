@@ -1,5 +1,5 @@
 //! Limits of a router on a socket.
 
-/// The most bytes of a datagram that are received: the longest that a route error can be by its
-/// count of destinations, and a few more. Of a longer one the front is received.
+/// The most bytes that are received of a datagram: the length of the longest route error that its
+/// count of destinations allows, and a few more. Of a longer datagram the first bytes are received.
 pub const MOST_RECEIVED: usize = 2049;

@@ -20,7 +20,7 @@ use mesh_peers::NodeLine;
 use std::alloc::Global;
 
 impl Point {
-    // The router that runs does a command.
+    // The running router does a command.
     fn step<O: Sink, L: Link>(
         &mut self,
         alloc: Global,
@@ -53,7 +53,7 @@ impl Point {
         }
     }
 
-    // The router that runs receives datagrams.
+    // The running router receives datagrams.
     fn poll<O: Sink, L: Link>(
         &mut self,
         alloc: Global,
@@ -144,7 +144,7 @@ fn do_peer<O: Sink>(
     Ok(())
 }
 
-// A command.
+// The router starts, unless it runs already, and does a command.
 fn do_step<O: Sink, L: Link>(
     alloc: Global,
     at: &mut Point,
@@ -177,7 +177,7 @@ fn do_step<O: Sink, L: Link>(
     Ok(())
 }
 
-// Datagrams are received.
+// The router starts, unless it runs already, and receives datagrams.
 fn do_poll<O: Sink, L: Link>(
     alloc: Global,
     at: &mut Point,
@@ -211,7 +211,7 @@ fn do_poll<O: Sink, L: Link>(
     Ok(())
 }
 
-/// Does an allowed line, and tells what comes of it: what it writes, and what is sent and received.
+/// Does an allowed line, and reports what comes of it.
 #[tactic(auto, using(crate::proofs::Acting::causes_of_sink, crate::proofs::Running::grown_zero))]
 pub fn do_line<O: Sink, L: Link>(
     alloc: Global,

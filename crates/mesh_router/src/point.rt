@@ -1,4 +1,4 @@
-//! Where the run of a router's script stands.
+//! How far the run of a router's script has come.
 ghost use Rattle.std.specs.Prelude.{◌≡◌, ◌<◌, ◌≤◌, is_some, true, false, length, OnOk, OnErr, None};
 ghost use Rattle.mesh_base.specs.Bounds.{most_lines};
 ghost use Rattle.mesh_base.specs.Meshes.{index_of};
@@ -22,7 +22,7 @@ pub enum Stage {
     Running(Router),
 }
 
-/// Where a run stands between two lines, and how many lines were read.
+/// The state of a run between two lines: its stage, and how many lines were read.
 #[derive(Drop)]
 pub struct Point {
     pub(crate) stage: Stage,
@@ -41,7 +41,7 @@ impl Model for Point {
 }
 
 impl Point {
-    /// Before the first line.
+    /// The state before the first line.
     pub fn new() -> Point
         ensures { result ≡ routers.opening_run_state }
     {
@@ -61,7 +61,7 @@ impl Point {
         }
     }
 
-    /// Whether a line was neither blank nor a `self` or `peer` line.
+    /// Whether the run has started: some line was neither blank nor a `self` or `peer` line.
     pub fn started(&self) -> bool
         ensures { result ≡ is_running self.now.stage }
     {
@@ -120,7 +120,7 @@ impl Point {
         }
     }
 
-    /// The router runs from now on. An `Err` changes nothing.
+    /// Starts the router, unless it runs already. An `Err` changes nothing.
     pub(crate) fn begin(&mut self, alloc: Global) -> Result<(), NoMemory>
         requires { is_some (peers_in self.old.stage).me ≡ true }
         ensures ok { OnOk result (self.new ≡ record self.old {

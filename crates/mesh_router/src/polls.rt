@@ -17,7 +17,7 @@ use mesh_io::{PutFault, Sink, put_all};
 use mesh_link::Link;
 use std::alloc::Global;
 
-// So many bytes were heard from a peer.
+// Writes that a datagram of `size` bytes was heard from a peer.
 fn put_heard<O: Sink>(
     mesh: &Mesh,
     from: usize,
@@ -46,7 +46,7 @@ fn push_strange_port(out: &mut LineBuf, port: u16)
     out.push(b'\n');
 }
 
-// A datagram of that port is nobody's.
+// Writes that a datagram from this port is dropped, since no peer is at the port.
 fn put_strange_port<O: Sink>(port: u16, buf: &mut LineBuf, out: &mut O) -> Result<(), PutFault>
     ensures text { Puts (O.held out.old) (O.held out.new) (strange_port_line port) result }
     ensures cause { HasCause (O.faults out.old) (O.faults out.new) result }
@@ -56,7 +56,7 @@ fn put_strange_port<O: Sink>(port: u16, buf: &mut LineBuf, out: &mut O) -> Resul
 }
 
 impl Router {
-    // A datagram has come from that port: one of a peer joins the inbox, any other is dropped.
+    // Takes a datagram that came from this port: a peer's joins the inbox, any other is dropped.
     fn take<O: Sink>(
         &mut self,
         alloc: Global,
@@ -75,7 +75,7 @@ impl Router {
         ensures cause { HasSinkCause (O.faults out.old) (O.faults out.new) result }
         ensures full { IfErr result IsNotFull }
     {
-        // The node itself is at no port.
+        // This call says that the node itself is at no port.
         let _mesh = self.peers.mesh();
         match self.peers.at_port(port) {
             Some(from) => {
@@ -95,7 +95,7 @@ impl Router {
 }
 
 impl Router {
-    // Receives a datagram: false where nothing is there.
+    // Receives a datagram, and returns false if none is there.
     fn poll<O: Sink, L: Link>(
         &mut self,
         alloc: Global,
@@ -129,7 +129,7 @@ impl Router {
         }
     }
 
-    // Receives up to so many datagrams.
+    // Receives up to `count` datagrams, and stops as soon as none is there.
     pub(crate) fn polls<O: Sink, L: Link>(
         &mut self,
         alloc: Global,

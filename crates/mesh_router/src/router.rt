@@ -1,4 +1,4 @@
-//! A router that runs: its node, the peers in range, and what it has counted.
+//! A running router: its node, the peers in range, and its counts.
 ghost use Rattle.std.specs.Prelude.{◌≡◌, [], length, Some};
 ghost use Rattle.mesh_base.specs.Meshes.{first_at};
 ghost use Rattle.mesh_base.specs.declared.events.Variant.TheVariants.{Base};
@@ -10,7 +10,7 @@ use mesh_base::{Mesh, NodeSet};
 use mesh_peers::Peers;
 use std::marker::Model;
 
-/// A router that runs. Its mesh is fixed.
+/// A running router. Its mesh is fixed.
 #[derive(Drop)]
 pub struct Router {
     pub(crate) peers: Peers,

@@ -24,7 +24,7 @@ use mesh_peers::parse_node_line;
 use mesh_shell::{Limit, LineReader, Runner, run_lines};
 use std::alloc::Global;
 
-// Does one line that isn't too long. Where the run ends at it, that is told.
+// Does one line that isn't too long. An `Err` is the answer of a run that ends at this line.
 fn one<O: Sink, L: Link>(
     alloc: Global,
     at: &mut Point,
@@ -75,7 +75,7 @@ fn one<O: Sink, L: Link>(
     }
 }
 
-// Why a line that goes past a limit is refused.
+// The reason for which a line that goes past a limit is refused.
 fn why_past(limit: Limit) -> BadWhy
     ensures { result ≡ why_past limit }
 {
@@ -85,8 +85,8 @@ fn why_past(limit: Limit) -> BadWhy
     }
 }
 
-/// The lines of a script, run from a point over a link: what each writes and sends is put at once,
-/// in one order.
+/// The lines of a script, run from a point over a link. What a line writes and sends is put
+/// immediately, in one order.
 pub(crate) struct Routing<'a, O, L> {
     alloc: Global,
     at: &'a mut Point,
@@ -119,7 +119,7 @@ impl<O: Sink, L: Link> Runner for Routing<'_, O, L> {
 
     ghost longest = { LONGEST_LINE };
 
-    // All is put at once, so nothing is gathered.
+    // All is put immediately, so nothing is gathered.
     #[inline]
     fn wait(&mut self) -> Option<NodeStatus> {
         None
@@ -153,7 +153,7 @@ impl<O: Sink, L: Link> Runner for Routing<'_, O, L> {
     ghost leaves = { leaves_room _ _ };
 }
 
-// Runs the lines of a script from its front.
+// Runs a script from its first line.
 fn route<R: LineReader, O: Sink, L: Link>(
     routing: &mut Routing<'_, O, L>,
     lines: &mut R,
@@ -184,7 +184,7 @@ fn route<R: LineReader, O: Sink, L: Link>(
     run_lines(routing, lines)
 }
 
-/// Runs a router's script over an open link, from its source to the sink and the link: each line of
+/// Runs a router's script over an open link, from its source to the sink and the link. Each line of
 /// text is put as soon as it is known, and each datagram is sent after the line that says so.
 pub fn run_script<I: Source, O: Sink, L: Link>(
     alloc: Global,
@@ -194,22 +194,22 @@ pub fn run_script<I: Source, O: Sink, L: Link>(
 ) -> NodeStatus
     requires open { is_some (L.port link.old) ≡ true }
 
-    // What is written and sent is what the script says with what was found, and the answer its
-    // verdict. After a fault, or want of memory, it is a prefix of that, in the order in which it
-    // is said: a datagram is sent only once all text before it is written.
+    // What is written and sent is the log of the script with what the link's receive calls found,
+    // and the answer is the log's verdict. After a fault, or lack of memory, it is a prefix of that
+    // log, in the log's order: a datagram is sent only once all text before it is written.
     ensures told { IfSome (I.left input.old) (λ script. IsScriptRun script (L.arrived link.old)
         (O.held out.old, L.sent link.old) (O.held out.new, L.sent link.new) result) }
 
-    // Done only where the script was read to its end.
+    // `Done` only if the script was read to its end.
     ensures end { result ≡ NodeStatus.Done → IsAtEnd (I.left input.new) }
 
-    // A fault is answered only where the source, the sink or the link has failed in this call.
+    // A fault is answered only if the source, the sink or the link has failed in this call.
     ensures read { result ≡ NodeStatus.ReadFault → Rose (I.faults input.old) (I.faults input.new) }
     ensures write { result ≡ NodeStatus.WriteFault → Rose (O.faults out.old) (O.faults out.new) }
     ensures send { result ≡ NodeStatus.LinkFault
         → Rose (L.faults link.old) (L.faults link.new) }
 
-    // The counts of faults don't fall, and the link stays open at its port.
+    // The sink's and the link's counts of faults don't fall, and the link stays open at its port.
     ensures sink { O.faults out.old ≤ O.faults out.new }
     ensures links { L.faults link.old ≤ L.faults link.new }
     ensures port { L.port link.new ≡ L.port link.old }
@@ -226,7 +226,7 @@ pub fn run_script<I: Source, O: Sink, L: Link>(
         link,
     };
     let status = route(&mut routing, &mut lines);
-    // It says that `out` and `link` are what the run has left.
+    // This says that `out` and `link` are as the run has left them.
     let Routing {
         alloc: _,
         at: _,
@@ -234,7 +234,7 @@ pub fn run_script<I: Source, O: Sink, L: Link>(
         out: _,
         link: _,
     } = routing;
-    // It says that `input` is the source as the lines have left it.
+    // This says that `input` is the source as the lines have left it.
     let _source = lines.give_back();
     status
 }

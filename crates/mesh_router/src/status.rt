@@ -1,4 +1,4 @@
-//! What a run of a router's script comes to.
+//! What the run of a router's script came to.
 ghost use Rattle.std.specs.Prelude.{◌≡◌};
 ghost use Rattle.mesh_router.specs.Codes.{code_of};
 
@@ -7,7 +7,7 @@ ghost use Rattle.mesh_router.specs.Codes.{code_of};
 pub enum NodeStatus {
     /// The script was read to its end.
     Done,
-    /// The words of the command line are no port.
+    /// The command line isn't one word that names a port.
     Usage,
     /// This line, counted from 1, is refused.
     BadLine { line: u64 },
@@ -17,7 +17,7 @@ pub enum NodeStatus {
     ReadFault,
     /// The sink failed.
     WriteFault,
-    /// Memory was asked for and not found.
+    /// Memory ran out.
     NoMemory,
     /// The link failed.
     LinkFault,

@@ -1,4 +1,4 @@
-//! What the other commands make a router do.
+//! What each command makes a router do.
 ghost use Rattle.std.specs.Prelude.{◌≡◌, ◌<◌, ◌≤◌, ◌+◌, ◌*◌, ◌++◌, not, length, codes, is_some, true, OnOk, IfOk, IfErr, IfSome, IsErrOf, Option, List};
 ghost use Rattle.std.specs.FinSet as sets;
 ghost use Rattle.aodv_model.specs.Handlers as model;
@@ -51,7 +51,7 @@ pub(crate) fn put_line<O: Sink>(
     put_all(out, buf.as_slice())
 }
 
-// A line that is idle.
+// Writes a line, and below it that the line is idle.
 fn put_idle<O: Sink>(
     line: &NodeLine<'_>,
     peers: &Peers,
@@ -68,8 +68,8 @@ fn put_idle<O: Sink>(
     put_all(out, buf.as_slice())
 }
 
-// Writes a line, and below it what the node did of its own accord; sends what it cast, and says to
-// how many peers.
+// Writes a line, and below it what the node did of its own accord; sends the packet that it cast,
+// and returns to how many peers.
 fn tell_act<O: Sink, L: Link>(
     line: &NodeLine<'_>,
     peers: &Peers,
@@ -289,7 +289,7 @@ impl Router {
         Ok(())
     }
 
-    // The node is shown.
+    // Shows the node.
     fn show<O: Sink>(&self, line: &NodeLine<'_>, buf: &mut LineBuf, out: &mut O) -> Result<(), Stop>
         requires printable { IsPrintable self.now.peers line.now }
         ensures step { (sent : Option (List Datagram)) → let r = self.now in
@@ -303,7 +303,7 @@ impl Router {
         Ok(())
     }
 
-    // Up to so many turns, below their line.
+    // Does up to `count` turns, below their line.
     fn turns_below<O: Sink, L: Link>(
         &mut self,
         line: &NodeLine<'_>,
@@ -331,8 +331,8 @@ impl Router {
         self.turns(count, scratch, out, link)
     }
 
-    /// Does a command of the script, and tells what comes of it. A line that makes the mesh, one
-    /// that polls and a blank one do nothing here.
+    /// Does a command of the script, and reports what comes of it. A line that adds to the mesh, a
+    /// `poll` line and a blank line do nothing here.
     #[tactic(auto, using(crate::proofs::Acting::causes_of_sink), unfolding(crate::specs::Lines::step_of))]
     pub fn step<O: Sink, L: Link>(
         &mut self,
@@ -349,7 +349,7 @@ impl Router {
             IsStepRun (step_of r (words_of r.peers.mesh l) l) (O.held out.old, L.sent link.old)
             (O.held out.new, L.sent link.new) self.new result }
 
-        // Memory is short only where the command needs some.
+        // Memory runs out only if the command may need some.
         ensures memory { IsErrOf result Stop.NoMemory
             → IsStepShort self.old (accepted_of line.now) }
 
@@ -377,7 +377,7 @@ impl Router {
         }
     }
 
-    /// Receives up to so many datagrams, below their line.
+    /// Receives up to `count` datagrams, below their line.
     pub fn poll_below<O: Sink, L: Link>(
         &mut self,
         alloc: Global,
@@ -395,7 +395,7 @@ impl Router {
             (O.held out.old, L.sent link.old) (O.held out.new, L.sent link.new)
             self.new result }
 
-        // Memory is short only where a peer's datagram was received.
+        // Memory runs out only if a peer's datagram was received.
         ensures memory { IsErrOf result Stop.NoMemory
             → IsPollShort self.old.peers (L.arrived link.old) (L.arrived link.new) }
 

@@ -1,4 +1,4 @@
-//! Why a router stops, and what its run lends to its lines.
+//! Why a router stops, and the buffers that a run lends to its lines.
 ghost use Rattle.std.specs.Prelude.{◌≡◌};
 ghost use Rattle.mesh_router.specs.declared.stop.Stop.TheVariants as stops;
 
@@ -6,16 +6,16 @@ use crate::limits::MOST_RECEIVED;
 use mesh_base::{Counter, LineBuf, NoMemory, Packet};
 use mesh_io::{Failed, PutFault};
 
-/// Why a command wasn't done, or not told whole.
+/// Why a command wasn't done, or wasn't reported in full.
 #[derive(Clone, Copy)]
 pub enum Stop {
-    /// It would raise this counter past its field's greatest value.
+    /// The command would raise this counter past its field's greatest value.
     Full(Counter),
     /// A write failed.
     WriteFault,
     /// The link failed.
     LinkFault,
-    /// Memory was asked for and not found.
+    /// Memory ran out.
     NoMemory,
 }
 
@@ -43,8 +43,8 @@ impl From<NoMemory> for Stop {
     }
 }
 
-/// A line to be written, a packet that is cast, and a datagram that is received: one of each for a
-/// whole run, so that none is made for a line.
+/// Buffers for a line to be written, a packet that is cast, and a datagram that is received: one of
+/// each for a whole run, so that none is made for each line.
 #[derive(Drop)]
 pub struct Scratch {
     pub(crate) line: LineBuf,
@@ -53,7 +53,7 @@ pub struct Scratch {
 }
 
 impl Scratch {
-    /// Empty ones.
+    /// An empty line and packet, and a datagram of zeros.
     pub fn new() -> Scratch {
         Scratch {
             line: LineBuf::new(),

@@ -22,10 +22,10 @@ use mesh_script::NUMBER_WIDTH;
 
 // ---- what can't be read
 
-// The most bytes that say why bytes encode no message.
+// No text that says why bytes encode no message is longer than this.
 const REFUSAL_WIDTH: usize = b"unknown type ".len() + NUMBER_WIDTH;
 
-// Why bytes encode no message.
+// Appends why bytes encode no message.
 #[tactic(auto, using(std::proofs::lemmas::List::append_assoc))]
 fn push_refusal(out: &mut LineBuf, why: WireError)
     requires { length out.old + REFUSAL_WIDTH ≤ LINE_CAPACITY }
@@ -61,7 +61,7 @@ fn push_unreadable(out: &mut LineBuf, mesh: &Mesh, from: usize, why: WireError)
     out.push(b'\n');
 }
 
-// A packet of that node can't be read.
+// Writes that a packet from this node can't be read.
 fn put_unreadable<O: Sink>(
     mesh: &Mesh,
     from: usize,
@@ -90,7 +90,7 @@ fn push_stranger(out: &mut LineBuf, mesh: &Mesh, from: usize, who: Addr)
     out.push(b'\n');
 }
 
-// A packet of that node names a stranger.
+// Writes that a packet from this node names a stranger.
 fn put_stranger<O: Sink>(
     mesh: &Mesh,
     from: usize,
@@ -110,7 +110,7 @@ fn put_stranger<O: Sink>(
 // ---- turns
 
 impl Router {
-    // The next turn: false where the inbox is empty.
+    // Does the next turn, and returns false if the inbox is empty.
     fn turn<O: Sink, L: Link>(
         &mut self,
         scratch: &mut Scratch,
@@ -129,7 +129,7 @@ impl Router {
         ensures port { L.port link.new ≡ L.port link.old }
         ensures arrived { L.arrived link.new ≡ L.arrived link.old }
     {
-        // What is read of a node is in order, and its mesh has distinct addresses.
+        // These calls say that the node is in order, and that its mesh has distinct addresses.
         let _number = self.node.sn();
         let _nodes = self.peers.mesh().len();
         let Some(me) = self.peers.me() else {
@@ -164,7 +164,7 @@ impl Router {
 }
 
 impl Router {
-    // Up to so many turns.
+    // Does up to `count` turns, and stops at the first that finds the inbox empty.
     pub(crate) fn turns<O: Sink, L: Link>(
         &mut self,
         count: u32,

@@ -9,7 +9,7 @@ use Rattle.mesh_text.specs.declared.verdict.Verdict.TheVariants.{Finished, Refus
 use Rattle.mesh_run.specs.declared.status.Status.{Status}
 use Rattle.mesh_run.specs.declared.status.Status.TheVariants.{Done, Usage, BadLine, Full, ReadFault, WriteFault, NoMemory}
 
--- by what its script has come to
+-- what a run answers, by what its script came to
 abbrev pub status_of : Result Verdict Fault → Status
 status_of (Ok Finished) = Done
 status_of (Ok (RefusedAt n)) = BadLine n
@@ -18,7 +18,8 @@ status_of (Err fault.ReadFault) = ReadFault
 status_of (Err fault.WriteFault) = WriteFault
 status_of (Err fault.NoMemory) = NoMemory
 
--- where there are no words to take: such words are of no form, or memory ran out
+-- what a run answers if the words of its command line can't be taken: words that aren't text are in
+-- none of the program's forms; or memory ran out
 abbrev pub status_without_words : WordsError → Status
 status_without_words words.NotText = Usage
 status_without_words words.NoMemory = NoMemory

@@ -25,7 +25,8 @@ abbrev pub why_past : Limit → BadWhy
 why_past Line = TooLong
 why_past Input = TooMuch
 
--- the last line is written and this is the verdict, or a prefix of it is
+-- the last line is written and this is the verdict; or the sink failed, and a prefix of the line is
+-- written
 abbrev pub IsLastWritten : List ℕ → Verdict → Option (List ℕ) → Option (List ℕ)
     → Result (Option Verdict) ShellFault → Type 0
 IsLastWritten text v before now (Ok None) = ⊥
@@ -34,7 +35,7 @@ IsLastWritten text v before now (Err ReadFault) = ⊥
 IsLastWritten text v before now (Err WriteFault) = AppendsPrefix before now text
 IsLastWritten text v before now (Err NoMemory) = ⊥
 
--- a last line can tell of what stopped the run in this state
+-- a last line can report what stopped the run in this state
 abbrev pub CanBeTold : RunState → Result (Unit {0}) Stop → Type 0
 CanBeTold n (Ok done) = ⊤
 CanBeTold n (Err (stop.BadLine f)) = n.lines < most_lines
@@ -43,7 +44,8 @@ CanBeTold n (Err (stop.Full e node field)) =
 CanBeTold n (Err stop.WriteFault) = ⊤
 CanBeTold n (Err stop.NoMemory) = ⊤
 
--- a run whose next line came to this in state n goes on, or has ended
+-- after a line with this result, in state n, the run goes on or has ended; if the line was refused
+-- or a counter was full, it ends with its last line
 abbrev pub IsSettled : RunState → Option (List ℕ) → Option (List ℕ) → Result (Unit {0}) Stop
     → Result (Option Verdict) ShellFault → Type 0
 IsSettled n before now (Ok done) result = (result ≡ Ok None) × (now ≡ before)
@@ -55,7 +57,8 @@ IsSettled n before now (Err (stop.Full e node field)) result =
 IsSettled n before now (Err stop.WriteFault) result = (result ≡ Err WriteFault) × (now ≡ before)
 IsSettled n before now (Err stop.NoMemory) result = (result ≡ Err NoMemory) × (now ≡ before)
 
--- the sink's fault is told where the line's text was not written, or where the last line is not
+-- the sink's fault is answered if it stopped the line, or if the last line could not be written;
+-- with any other answer the sink did not fail
 pub record HasSettledCause (before now : ℕ) (did : Result (Unit {0}) Stop)
     (result : Result (Option Verdict) ShellFault) : Type 0 where
   pub later : before ≤ now

@@ -24,7 +24,7 @@ use Rattle.mesh_world.specs.declared.totals.Totals.{Totals}
 use Rattle.mesh_world.specs.declared.steps.StepError.{StepError}
 use Rattle.mesh_world.specs.declared.steps.StepError.TheVariants.{Full, NoMemory}
 
--- the state of a run whose world is seen so
+-- the state of a run with these parts, by what is seen of its world
 abbrev pub run_state_seen : Variant → Nodes → Option WorldSeen → Sums → ℕ → RunState
 run_state_seen variant nodes seen sums lines = record {
   variant = variant;
@@ -35,7 +35,7 @@ run_state_seen variant nodes seen sums lines = record {
   steps = unwrap_or (option_map (λ w. w.steps) seen) 0;
 }
 
--- the state in which a line is done: one that is neither blank nor of a node starts the run
+-- the state in which a line is done: a line that is neither blank nor a `node` line starts the run
 abbrev pub with_run_begun : RunState → AcceptedLine → RunState
 with_run_begun m Nothing = m
 with_run_begun m (NewNode address first) = m
@@ -63,7 +63,7 @@ pub record IsSound (m : RunState) (seen : Option WorldSeen) : Type 0 where
   pub world : ForSome seen (IsWorldAt m.variant m.mesh)
   pub balanced : IsBalanced m
 
--- where the data of a world are
+-- how many data of a world wait for a route, are queued, and are in flight
 pub record AreTotals (w : World) (t : Totals) : Type 0 where
   pub waiting : t.waiting ≡ waiting any w
   pub queued : t.queued ≡ queued_data any w
@@ -74,8 +74,8 @@ pub record IsSafeWorld (w : World) : Type 0 where
   pub invariant : IsInvariant w
   pub loop_free : (d : ℕ) → ¬ (Cycle w d)
 
--- what holds in each state of a run: its world is safe, and each datum that was given or doubled
--- was delivered, waits, is in flight, or was dropped
+-- what holds in each state of a run: its world is safe, and as many data were given or doubled as
+-- were delivered, wait, are in flight, or were dropped
 pub record IsSafe (m : RunState) : Type 0 where
   pub world : IfSome m.world IsSafeWorld
   pub balanced : IsBalanced m
@@ -88,14 +88,14 @@ pub record IsAnswer (m : RunState) (e : Event) (done : Done) (n : RunState) (pac
   pub outcome : outcome_at m e ≡ outcome_in m.mesh (node_of e) (world_of n) done packet
   pub in_mesh : IsDoneInMesh m.mesh done packet
 
--- there is such an answer
+-- such an answer exists
 pub record IsAnswered (m : RunState) (e : Event) (n : RunState) : Type 0 where
   pub done : Done
   pub packet : List ℕ
   pub answer : IsAnswer m e done n packet
 
--- the delivery of this copy was done, and then the turn of its receiver, which was the event to be
--- chosen in the state between them
+-- the delivery of this copy was done, and then the turn of its receiver, which was the event that a
+-- run chooses in the state between them
 pub record IsTakenAtOnce (m : RunState) (id : ℕ) (n : RunState) : Type 0 where
   pub to : ℕ
   pub between : RunState
@@ -103,7 +103,7 @@ pub record IsTakenAtOnce (m : RunState) (id : ℕ) (n : RunState) : Type 0 where
   pub next : pick (world_of between) ≡ Some (Turn to)
   pub taken : IsAnswered between (Turn to) n
 
--- the event was refused for a full counter
+-- a refusal for a full counter is what the event comes to; about a lack of memory nothing is said
 abbrev pub IsRefusal : RunState → Event → StepError → Type 0
 IsRefusal m e (Full node field) = outcome_at m e ≡ worlds.Full node field
 IsRefusal m e NoMemory = ⊤

@@ -1,4 +1,4 @@
--- The run of a schedule as a script: what its lines and its end make of the state.
+-- The run of a schedule as a script: what each line and the end write, and the states they lead to.
 use Rattle.std.specs.Prelude.{ℕ, Bool, List, []}
 use Rattle.mesh_shell.specs.Fold.{Outcome, On, Ended, Fold}
 use Rattle.mesh_run.specs.Sums.{IsGrown}
@@ -14,7 +14,7 @@ use Rattle.mesh_run.specs.Outputs.{says_lines}
 use Rattle.mesh_run.specs.Room.{CanLead}
 use Rattle.mesh_run.specs.Runs.{output_if}
 
--- what is written of a line: its text where it is said, and a last line always
+-- what is written of a line: its text if `say`, and a last line always
 abbrev pub said : {M V : Type 0} → Bool → Outcome M V → Outcome M V
 said say (On text n) = On (output_if say text) n
 said say (Ended text last v) = Ended (output_if say text) last v
@@ -25,16 +25,16 @@ last_said All last = last
 last_said Last last = last
 last_said Faults last = []
 
--- the next state, seen as that of another state
+-- an outcome with its next state mapped by `to`
 abbrev pub outcome_as : {M N V : Type 0} → (M → N) → Outcome M V → Outcome N V
 outcome_as to (On text n) = On text (to n)
 outcome_as to (Ended text last v) = Ended text last v
 
--- the run in another state
+-- this run, moved to another state
 abbrev pub moved : {S : Type 0} → Running S → RunState → Running S
 moved r n = record r { at = n }
 
--- the run of a schedule, as far as it is said
+-- the run of a schedule; its `say` decides how much of the text is written
 abbrev pub running : {S : Type 0} → Fold (Running S) Verdict
 running = record {
   head = λ r. [];
@@ -48,8 +48,8 @@ running = record {
   };
 }
 
--- lines of so many bytes can lead from the one run state to the other: the sums have grown by no
--- more than the steps
+-- lines of this many bytes can lead from run r to run q, and the sums have grown by no more than
+-- the steps
 pub record CanRun {S : Type 0} (r : Running S) (size : ℕ) (q : Running S) : Type 0 where
   pub grown : IsGrown r.at q.at
   pub led : CanLead r.at size q.at

@@ -1,5 +1,5 @@
--- What was told of one line, of one event, and of events that were chosen. A text is written
--- where it is to be said, and else left out.
+-- What is written and answered for one line, for one event, and for events that were chosen. A text
+-- is written only if `say` is true.
 use Rattle.std.specs.Prelude.{ℕ, zero, suc, ◌≡◌, ◌≤◌, ◌⊎◌, List, [], ◌∷◌, take, Bool, if◌then◌else◌, Option, Some, None, Result, Ok, Err, MatchResult, IsSomeAnd, length}
 use Rattle.std.specs.Io.KnownBytes.{Appends, Keeps}
 use Rattle.mesh_base.specs.declared.events.Counter as full
@@ -24,7 +24,7 @@ use Rattle.mesh_run.specs.declared.show.Shown.TheVariants as shown
 use Rattle.mesh_run.specs.declared.stop.Stop.{Stop}
 use Rattle.mesh_run.specs.declared.stop.Stop.TheVariants as stop
 
--- a text that is written where it is to be said
+-- what is written of a text: all of it if `say`, and otherwise nothing
 abbrev pub output_if : Bool → List ℕ → List ℕ
 output_if say text = if say then text else []
 
@@ -34,13 +34,13 @@ line_of_shown (shown.Node node) = ShowsNode node
 line_of_shown (shown.Route node dest) = ShowsRoute node dest
 line_of_shown shown.Flight = ShowsFlight
 
--- the bytes of a line are what the line is written back as
+-- the bytes of a line are those that it is written back as, and are not too long
 abbrev pub IsLineOf : Nodes → AcceptedLine → List ℕ → Type 0
 IsLineOf mesh l bytes = (length bytes ≤ LONGEST_LINE) × (bytes ≡ words_of mesh l)
 
 -- ---- what came of a line, or of one event
 
--- it was done and its text written, and the run goes on from the next state
+-- it was done and its text written, and the run goes on from state n
 pub record IsLineDone (say : Bool) (k : LineOutcome) (n : RunState) (before now : Option (List ℕ))
     : Type 0 where
   pub text : List ℕ
@@ -54,7 +54,7 @@ pub record IsStill (m n : RunState) (e : Event) : Type 0 where
   pub mesh : n.mesh ≡ m.mesh
   pub lines : n.lines ≡ m.lines
 
--- an event was refused for this node's full counter in the state that is left, after a text
+-- after a text, an event was refused in state n because this counter of this node is full
 pub record IsLineFull
     (say : Bool) (m : RunState) (k : LineOutcome) (n : RunState) (before now : Option (List ℕ))
     (e : Event) (node : ℕ) (field : full.Counter) : Type 0 where
@@ -64,7 +64,7 @@ pub record IsLineFull
   pub grown : Appends before now (output_if say text)
   pub still : IsStill m n e
 
--- it was refused, or was not done or not written whole
+-- the line was refused, or was not done, or not written whole
 abbrev pub IsLineStopped : Bool → RunState → LineOutcome → RunState → Option (List ℕ)
     → Option (List ℕ) → Stop → Type 0
 IsLineStopped say m k n before now (stop.BadLine f) =
@@ -76,13 +76,13 @@ IsLineStopped say m k n before now stop.WriteFault =
 IsLineStopped say m k n before now stop.NoMemory =
     AppendsPrefix before now (output_if say (text_in k))
 
--- either
+-- the line was done and written, or was stopped
 abbrev pub IsLineRun : Bool → RunState → LineOutcome → RunState → Option (List ℕ) → Option (List ℕ)
     → Result (Unit {0}) Stop → Type 0
 IsLineRun say m k n before now result =
     MatchResult result (λ _. IsLineDone say k n before now) (IsLineStopped say m k n before now)
 
--- either, of a line that is not counted yet
+-- the same for a line that is not counted yet
 abbrev pub IsUncountedRun : Bool → RunState → LineOutcome → RunState → Option (List ℕ)
     → Option (List ℕ) → Result (Unit {0}) Stop → Type 0
 IsUncountedRun say m k n before now result =
@@ -91,18 +91,18 @@ IsUncountedRun say m k n before now result =
 
 -- ---- the states that a line goes through
 
--- some of these events lead from one run state to another
+-- some prefix of these events leads from run state m to run state n
 abbrev pub IsReached : RunState → List Event → RunState → Type 0
 IsReached m events n = (k : ℕ) × (n ≡ run_state_after m (take k events))
 
--- a line with these events goes through a state before it is counted: the one before it; or, once
--- the run has started, that after some of its events
+-- a line with these events goes through state n before it is counted: n is the state before the
+-- line; or, once the run has started, the state after some prefix of the events
 abbrev pub IsOnTheWay : RunState → List Event → RunState → Type 0
 IsOnTheWay m events n = (n ≡ m) ⊎ IsReached (with_world m) events n
 
 -- ---- one event
 
--- what an event comes to, by its outcome, where no line is counted
+-- what an event comes to, by its outcome, with no line counted
 abbrev pub outcome_by : RunState → Event → Outcome → LineOutcome
 outcome_by m e Idle = On (outcome_lines m.mesh e Idle) (next_state m e)
 outcome_by m e (worlds.Full x field) = Full [] m e field
@@ -120,8 +120,8 @@ pub record IsEventsDone
   pub is : ran ≡ Ended text n
   pub grown : Appends before now (output_if say text)
 
--- one was refused for this node's full counter in the state that is left, after the text of the
--- others
+-- after the text of the events before it, an event was refused in state n because this counter of
+-- this node is full
 pub record IsEventsFull
     (say : Bool) (m : RunState) (ran : EventsOutcome) (n : RunState) (before now : Option (List ℕ))
     (e : Event) (node : ℕ) (field : full.Counter) : Type 0 where
@@ -135,7 +135,8 @@ abbrev pub text_of : EventsOutcome → List ℕ
 text_of (Ended text n) = text
 text_of (EventsFull text n e field) = text
 
--- what was told of them, from state m to state n. None of them is a line that is refused
+-- what was written and answered for these events, from state m to state n. None of them is refused
+-- as a bad line
 abbrev pub IsEventsRun : Bool → RunState → EventsOutcome → RunState → Option (List ℕ)
     → Option (List ℕ) → Result ℕ Stop → Type 0
 IsEventsRun say m ran n before now (Ok did) = IsEventsDone say ran n before now
@@ -149,12 +150,12 @@ IsEventsRun say m ran n before now (Err stop.NoMemory) =
 
 -- ---- an event that is given, or those that a run chooses
 
--- the event that comes next
+-- the event that comes next: the one that is given, or else the one that the run chooses
 abbrev pub next_in : Option Event → RunState → Option Event
 next_in None m = pick (world_of m)
 next_in (Some e) m = Some e
 
--- the two events that a run chooses one after the other were done
+-- two events were done, one after the other, each as the run chooses it
 pub record AreTwoDone (m n : RunState) : Type 0 where
   pub first : Event
   pub chosen : pick (world_of m) ≡ Some first
@@ -164,12 +165,13 @@ pub record AreTwoDone (m n : RunState) : Type 0 where
   pub next : pick (world_of between) ≡ Some second
   pub ends : IsAnswered between second n
 
--- up to so many events from a state on: the one that is given, once, or else those that are chosen
+-- at most this many events from a state on: the one that is given, once, or else those that the run
+-- chooses
 unfoldable pub events_due : Option Event → ℕ → RunState → List Event
 events_due None most m = events_chosen most m
 events_due (Some e) zero m = []
 events_due (Some e) (suc most) m = e ∷ []
 
--- the bytes of a line are what the event that is given is written back as
+-- an event is given, and these bytes are those that its line is written back as
 abbrev pub IsLineOfGiven : Nodes → Option Event → List ℕ → Type 0
 IsLineOfGiven mesh given bytes = IsSomeAnd given (λ e. IsLineOf mesh (Does e) bytes)

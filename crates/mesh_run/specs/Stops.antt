@@ -14,13 +14,13 @@ abbrev pub event_stop_of : StepError → EventStop
 event_stop_of (Full node field) = event.Full field
 event_stop_of NoMemory = event.NoMemory
 
--- what stops the run where this event wasn't done, or not written whole
+-- what stops the run if this event wasn't done, or not written whole
 abbrev pub stop_of : EventGiven → EventStop → Stop
 stop_of e (event.Full field) = stop.Full e (node_of (event_of e)) field
 stop_of e event.WriteFault = stop.WriteFault
 stop_of e event.NoMemory = stop.NoMemory
 
--- what the run answers at this event, by what the event answers
+-- what the line of this event answers, by what the event answers
 abbrev pub answer_of : EventGiven → Result (Unit {0}) EventStop → Result (Unit {0}) Stop
 answer_of e (Ok done) = Ok done
 answer_of e (Err s) = Err (stop_of e s)

@@ -1,13 +1,14 @@
--- How far the counts of a run may have come, and how they grow.
+-- How large the counts of a run may be, and how they grow.
 use Rattle.std.specs.Prelude.{ℕ, ◌≡◌, ◌≤◌, ◌+◌, ◌*◌, ◌^◌}
 use Rattle.mesh_text.specs.Schedule as model
 use Rattle.mesh_base.specs.declared.limits.TheConstants.{MOST_NODES}
 use Rattle.mesh_text.specs.Schedule.{RunState, world_of}
 
--- no sum is above what may have been counted before a world's first step and the steps since
+-- the most that may have been counted before a world's first step
 abbrev pub counted_before : ℕ
 counted_before = 2 ^ 60
 
+-- no sum is above that and the steps since
 pub record AreCounts (s : model.Sums) (steps : ℕ) : Type 0 where
   pub events : s.events ≤ counted_before + steps
   pub idle : s.idle ≤ counted_before + steps
@@ -16,8 +17,9 @@ pub record AreCounts (s : model.Sums) (steps : ℕ) : Type 0 where
   pub lost : s.lost ≤ counted_before + steps
   pub copied : s.copied ≤ counted_before + steps
 
--- the events have grown by as much as the steps, and no sum by more; the next copy's number, which
--- is 1 before there is a world, by at most as much for each node that a mesh may have
+-- the number of events has grown by exactly as much as the steps, and no other sum by more; the
+-- next copy's number, which is 1 before there is a world, has grown by at most MOST_NODES for each
+-- step
 pub record IsGrown (m n : RunState) : Type 0 where
   pub steps : m.steps ≤ n.steps
   pub events : n.sums.events + m.steps ≡ m.sums.events + n.steps

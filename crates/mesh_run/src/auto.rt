@@ -23,20 +23,21 @@ use mesh_script::Line;
 use mesh_world::Steps;
 use std::alloc::Global;
 
-/// Events that are to be done, and the state in which they are.
+/// Events that are to be done, and the state in which they start.
 #[derive(Drop)]
 pub struct Task<'p, 'a, 'b, S: Steps> {
     pub at: &'p mut Point<S>,
-    /// The event of a line; where there is none, the run chooses each.
+    /// The event of a line; if there is none, the run chooses each event.
     pub given: Option<Event<'a>>,
-    /// The line of that event, as it stands.
+    /// The line of that event, as it was read.
     pub bytes: Option<&'b [u8]>,
-    /// How many there are at most: one where it is given.
+    /// How many events are done at most; at most 1 if the event is given.
     pub count: u32,
 }
 
-// The event that comes next, lent where it stands: the one that is given, or else the one that the
-// run chooses, which is put down first. To copy what was just written would stall the processor.
+// The event that comes next, borrowed from where it is kept: the one that is given, or else the one
+// that the run chooses, which is first written to `chosen`. To copy what was just written would
+// stall the processor.
 #[inline(always)]
 fn event_after<'e, 'a, S: Steps>(
     at: &Point<S>,
@@ -58,7 +59,8 @@ fn event_after<'e, 'a, S: Steps>(
     }
 }
 
-// Whether two events may be done as one: nothing is said, the run chooses, and two are left.
+// Whether two events may be done together: nothing is written, the run chooses, and at least two
+// events are left.
 #[inline(always)]
 fn may_take_two(say: bool, given: &Option<Event<'_>>, left: u32) -> bool
     ensures { result ≡ true
@@ -67,9 +69,9 @@ fn may_take_two(say: bool, given: &Option<Event<'_>>, left: u32) -> bool
     !say && given.is_none() && left >= 2
 }
 
-// Does the event that the run chooses and the one that it chooses then as one, where they are a
-// delivery and the turn of its receiver. Where the answer is false nothing is done. It is a call, so
-// that the loop which does a line's event keeps its registers.
+// Does two events together: the one that the run chooses and the one that it chooses next, if they
+// are a delivery and the turn of its receiver. If the answer is false, nothing was done. It isn't
+// inlined, so that the loop that does a line's event keeps its registers.
 #[inline(never)]
 fn take_next_two<S: Steps>(at: &mut Point<S>) -> bool
     requires started { is_some at.old.world ≡ true }
@@ -83,7 +85,7 @@ fn take_next_two<S: Steps>(at: &mut Point<S>) -> bool
     }
 }
 
-// The same where it may be.
+// Calls `take_next_two` if `may`; otherwise does nothing.
 #[inline(always)]
 fn take_two<S: Steps>(at: &mut Point<S>, may: bool) -> bool
     requires started { is_some at.old.world ≡ true }
@@ -97,10 +99,10 @@ fn take_two<S: Steps>(at: &mut Point<S>, may: bool) -> bool
     take_next_two(at)
 }
 
-/// Does up to so many events, and answers how many there were: the one that is given, or else those
-/// that the run chooses, each when the one before it is done. It is part of both its callers: the
-/// one event of a line needs no loop there, and no answer of 72 bytes goes through memory. Where
-/// nothing is said, a chosen delivery and the turn behind it are done as one.
+/// Does at most `task.count` events, and answers how many it did: the one that is given, or else
+/// those that the run chooses, each after the one before it is done. It is inlined into both its
+/// callers: the one event of a line needs no loop there, and no answer of 72 bytes goes through
+/// memory. If nothing is written, a chosen delivery and the turn after it are done together.
 #[inline(always)]
 pub fn do_events<'a, S: Steps, O: Sink>(
     alloc: Global,
@@ -147,7 +149,7 @@ pub fn do_events<'a, S: Steps, O: Sink>(
     Ok(did)
 }
 
-// A line as it stands, where it is said.
+// Writes a line as it was read, if `say`.
 fn say_echo<O: Sink>(
     bytes: &[u8],
     say: bool,
@@ -165,8 +167,8 @@ fn say_echo<O: Sink>(
     put_echo(bytes, buf, out)
 }
 
-/// Does up to so many events that the run chooses, and writes the line as it stands, the events and
-/// their number.
+/// Does at most `count` events that the run chooses. If `say`, it writes the line as it was read,
+/// the events, and how many there were.
 pub fn do_auto<S: Steps, O: Sink>(
     alloc: Global,
     at: &mut Point<S>,
@@ -193,7 +195,7 @@ pub fn do_auto<S: Steps, O: Sink>(
         count,
     };
     let ran = do_events(alloc, &mut task, say, out);
-    // It says that `at` is the state as the events have left it.
+    // For the proof: `at` is the state as the events have left it.
     let Task {
         at: _at,
         given: _,

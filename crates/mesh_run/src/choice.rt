@@ -24,10 +24,10 @@ fn first_copy_of(world: &World) -> Option<u64>
     radio.first_id()
 }
 
-/// The event that comes next where a run chooses: the first that there is of a turn, a delivery,
-/// the send of a stored datum, and a request, each at the least node, copy or destination. It
-/// searches through nothing. It is part of its caller, so that the event is written right where it
-/// is kept, and not handed back through memory first.
+/// The event that a run chooses next: the first that there is of a turn, a delivery, the send of a
+/// stored datum, and a request, each at the least node, copy or destination. Nothing is searched.
+/// It is inlined, so that the event is written directly to where it is kept, and isn't returned
+/// through memory first.
 #[inline(always)]
 pub fn pick(world: &World) -> Option<Event<'static>>
     ensures value { option_map event_of result ≡ pick world.now.world }
@@ -48,7 +48,7 @@ pub fn pick(world: &World) -> Option<Event<'static>>
     Some(Event::Ask { node, dest })
 }
 
-/// The event that comes next where the run chooses. It is part of its caller, as `pick` is.
+/// The event that the run chooses next. It is inlined for the same reason as `pick`.
 #[inline(always)]
 pub fn next_event<S: Steps>(at: &Point<S>) -> Option<Event<'static>>
     requires { is_some at.now.world ≡ true }
@@ -59,7 +59,7 @@ pub fn next_event<S: Steps>(at: &Point<S>) -> Option<Event<'static>>
         unreachable!();
     };
     let world = state.world();
-    // A world is sound: its mesh has nodes, and no more than a mesh may have.
+    // For the proof: a world is sound, so its mesh has nodes, and no more than a mesh may have.
     let _mesh = world.mesh();
     pick(world)
 }

@@ -30,8 +30,8 @@ use mesh_script::Line;
 use mesh_world::{StepError, Steps};
 use std::alloc::Global;
 
-/// Writes an event, as its line stands or in canonical form where it has none, and what it did. It
-/// is part of its caller, which mostly knows whether there is a line.
+/// Writes an event, as its line was read or, if it has no line, in canonical form, and then what
+/// the event did. It is inlined, since most callers know whether there is a line.
 #[inline(always)]
 pub fn say_event<O: Sink>(
     mesh: &Mesh,
@@ -56,7 +56,8 @@ pub fn say_event<O: Sink>(
     }
 }
 
-/// Does an event once the run has started, and writes it: as its line stands, where it has one.
+/// Does an event once the run has started and, if `say`, writes it: as its line was read, if it has
+/// one.
 #[inline(always)]
 pub fn do_event<S: Steps, O: Sink>(
     alloc: Global,
@@ -92,7 +93,7 @@ pub fn do_event<S: Steps, O: Sink>(
     }
 }
 
-// Why a refused event isn't done. The node that is full is the event's own.
+// Why a refused event isn't done. The node whose counter is full is the event's own.
 #[cold]
 fn event_stop_of(error: StepError) -> EventStop
     ensures { result ≡ event_stop_of error }
@@ -103,7 +104,7 @@ fn event_stop_of(error: StepError) -> EventStop
     }
 }
 
-// A line as it is written back, where it is said.
+// Writes a line back, if `say`.
 fn say_line<O: Sink>(
     mesh: &Mesh,
     line: &Line<'_>,
@@ -123,7 +124,7 @@ fn say_line<O: Sink>(
     put_line(mesh, line, buf, out)
 }
 
-// One more node.
+// Adds a node, and writes its line if `say`.
 fn do_node<S: Steps, O: Sink>(
     at: &mut Point<S>,
     addr: Addr,
@@ -144,7 +145,7 @@ fn do_node<S: Steps, O: Sink>(
     Ok(())
 }
 
-// Does an allowed line other than that of an event, and writes its text where `say`.
+// Does an allowed line other than an event's, and writes its text if `say`.
 #[tactic(auto, unfolding(mesh_text::specs::Text::outcome_of_line))]
 fn do_rest<'a, S: Steps, O: Sink>(
     alloc: Global,
@@ -178,8 +179,8 @@ fn do_rest<'a, S: Steps, O: Sink>(
     }
 }
 
-// Does an allowed line, and writes its text where `say`. The line of an event comes most often: it
-// is done apart from the others, so that it doesn't make room for what they answer.
+// Does an allowed line, and writes its text if `say`. An event's line comes most often: it is done
+// separately from the others, so that it makes no room for their answers.
 #[inline(always)]
 fn do_uncounted<'a, S: Steps, O: Sink>(
     alloc: Global,
@@ -212,7 +213,7 @@ fn do_uncounted<'a, S: Steps, O: Sink>(
         count: 1,
     };
     let ran = do_events(alloc, &mut task, say, out);
-    // It says that `at` is the state as the event has left it.
+    // For the proof: `at` is the state as the event has left it.
     let Task {
         at: _at,
         given: _,
@@ -225,8 +226,8 @@ fn do_uncounted<'a, S: Steps, O: Sink>(
     Ok(())
 }
 
-/// Does an allowed line, writes its text where `say`, and counts it. Every line but that of a node
-/// is written back as it stands; of a line that isn't said the bytes aren't asked for.
+/// Does an allowed line, writes its text if `say`, and counts it. Every line but a `node` line is
+/// written back as it was read; if `say` is false, `bytes` need not be the line's.
 #[inline(always)]
 pub fn do_line<'a, S: Steps, O: Sink>(
     alloc: Global,

@@ -23,9 +23,9 @@ use mesh_shell::run as shell_run;
 use mesh_world::Steps;
 use std::alloc::Global;
 
-/// Does the lines of an input as `drive` does, in a run that stays where it is: a large world isn't
-/// moved. Whatever the answer, and whether or not the source tells its bytes, the state that is
-/// left is safe. The memory of the buffer is taken first.
+/// Does the lines of an input as `drive` does, in a run that it only borrows, so that a large world
+/// isn't moved. Whatever the answer, and whether or not the source's bytes are known, the state
+/// that is left is safe. The buffer's memory is allocated first.
 pub fn do_input<S: Steps, I: Source, O: Sink>(
     running: &mut Running<S>,
     input: &mut I,
@@ -52,14 +52,15 @@ pub fn do_input<S: Steps, I: Source, O: Sink>(
     let alloc = running.alloc;
     let most = Limits::of_schedule();
     let answer = shell_run::<Running<S>, I, O, SCHEDULE_CAPACITY>(alloc, running, most, input, out);
-    // Where its world is asked for it is said that the state is safe.
+    // The contract of `world` says that the state is safe.
     let _world = running.at.world();
     Status::of(answer)
 }
 
-/// Does the lines of an input in order, from a state on, up to its end or the first that stops the
-/// run: one that isn't allowed, or has an event that would raise a counter past its field's
-/// greatest value. The state to which they came is there exactly where the answer is Done.
+/// Does the lines of an input in order, from a state on, to its end or to the first line that stops
+/// the run: one that isn't allowed, or that has an event that would raise a counter past its
+/// field's greatest value. The state to which they led is returned exactly where the answer is
+/// Done.
 ///
 /// What is written is gathered in a buffer of 65536 bytes, and handed on when that is full, before
 /// each read of the source, and at the end, unless a write has failed.
@@ -73,29 +74,30 @@ pub fn drive<S: Steps, I: Source, O: Sink>(
     requires lines { start.lines < most_lines_before_run }
     requires steps { start.steps < most_steps_before_run }
 
-    // What is written is what is said of the run of the input's lines, and the answer its verdict.
-    // After a failed write, or want of memory, it is a prefix of that; after a failed read it is
-    // what is said of the lines that were read whole.
+    // What is written is the part that `say` asks for of the text of the input, and the answer is
+    // the text's verdict. After a failed write or a lack of memory, a prefix of that part is
+    // written; after a failed read, what `say` asks for of the text of the lines that were read
+    // whole.
     ensures told { IfSome (I.left input.old) (λ bytes. IsOutputFrom say start bytes
         (I.left input.new) (O.held out.old) (O.held out.new) result.0) }
 
-    // The state is the one to which the run came. Its world has no loop and the invariant, and the
-    // account of the data is balanced, whether or not the source tells its bytes.
+    // The state is the one that the run came to. Its world has the invariant and no loop, and the
+    // account of the data is balanced, whether or not the source's bytes are known.
     ensures point { (is_some result.1 ≡ true) ↔ (result.0 ≡ Status.Done) }
     ensures after { IfSome result.1 (λ p. IfSome (I.left input.old) (λ bytes.
         p ≡ (text_on start bytes).after)) }
     ensures safe { IfSome result.1 IsSafe }
 
-    // What an input can add.
+    // An input can add at most this much.
     ensures grown { IfSome result.1 (IsGrown start) }
     ensures few_lines { IfSome result.1 (λ p. p.lines ≤ start.lines + LONGEST_INPUT) }
     ensures few_steps { IfSome result.1 (λ p. p.steps < start.steps + steps_of_input_end) }
 
-    // Done only where the input was read to its end.
+    // Done comes only if the input was read to its end.
     ensures end { result.0 ≡ Status.Done → IsAtEnd (I.left input.new) }
 
-    // A fault is answered only where the source or the sink has failed in this call, and no other
-    // answer is given where one of them has.
+    // A fault is answered only if the source or the sink has failed in this call, and no other
+    // answer comes if one of them has.
     ensures read { HasSourceCause (I.faults input.old) (I.faults input.new) result.0 }
     ensures write { HasStatusCause Status.WriteFault
         (O.faults out.old) (O.faults out.new) result.0 }
@@ -113,9 +115,9 @@ pub fn drive<S: Steps, I: Source, O: Sink>(
 }
 
 /// Runs the schedule that the source gives, in a world of its own where all nodes run this variant
-/// of the protocol, and writes its text to the sink, line by line; a quiet run writes the last line
-/// alone. Where the source doesn't tell its bytes, each world of the run is safe too: it is the one
-/// that `do_input` goes through.
+/// of the protocol, and writes its text to the sink, line by line; a quiet run writes only the last
+/// line. Even if the source's bytes aren't known, each world of the run is safe: the worlds are
+/// those that `do_input` goes through.
 #[inline(never)]
 pub fn run<S: Steps, I: Source, O: Sink>(
     alloc: Global,
@@ -124,24 +126,24 @@ pub fn run<S: Steps, I: Source, O: Sink>(
     input: &mut I,
     out: &mut O,
 ) -> Status
-    // What is written is the text of the input, and the answer its verdict. After a failed write,
-    // or want of memory, it is a prefix of that text; after a failed read it is the text of the
-    // lines that were read whole.
+    // What is written is the text of the input, or only its last line if `quiet`, and the answer is
+    // its verdict. After a failed write or a lack of memory, a prefix of that is written; after a
+    // failed read, and unless `quiet`, the text of the lines that were read whole.
     ensures told { IfSome (I.left input.old) (λ bytes. IsOutputFrom (say_by quiet)
         (opening variant) bytes (I.left input.new) (O.held out.old) (O.held out.new) result) }
 
-    // In no world to which the lines come, after any number of their events, has a destination a
-    // loop; in each of them every datum is accounted for; and the text has a line for each time
-    // that a datum was delivered or dropped.
+    // In no world to which the lines lead, after any number of their events, does a destination
+    // have a loop; in each of these worlds every datum is accounted for; and the text has a line
+    // for each time that a datum was delivered or dropped.
     ensures loop_free { IfSome (I.left input.old) (IsLoopFreeRun variant) }
     ensures accounted { IfSome (I.left input.old) (IsAccountedRun variant) }
     ensures named { IfSome (I.left input.old) (IsNamedRun variant) }
 
-    // Done only where the input was read to its end.
+    // Done comes only if the input was read to its end.
     ensures end { result ≡ Status.Done → IsAtEnd (I.left input.new) }
 
-    // A fault is answered only where the source or the sink has failed in this call, and no other
-    // answer is given where one of them has.
+    // A fault is answered only if the source or the sink has failed in this call, and no other
+    // answer comes if one of them has.
     ensures read { HasSourceCause (I.faults input.old) (I.faults input.new) result }
     ensures write { HasStatusCause Status.WriteFault (O.faults out.old) (O.faults out.new) result }
     ensures words { result ≢ Status.Usage }

@@ -33,7 +33,7 @@ pub fn why_past(limit: Limit) -> BadWhy
     }
 }
 
-/// Ends the run at a line that isn't allowed: writes the line that tells of it.
+/// Ends the run at a line that isn't allowed, and writes the line that says so.
 #[cold]
 pub fn refuse<S: Steps, O: Sink>(
     at: &mut Point<S>,
@@ -52,7 +52,7 @@ pub fn refuse<S: Steps, O: Sink>(
     Ok(Verdict::RefusedAt(line))
 }
 
-// Ends the run at an event that is refused for a full counter: writes the line that tells of it.
+// Ends the run at an event that is refused for a full counter, and writes the line that says so.
 #[cold]
 #[inline(never)]
 fn fill<S: Steps, O: Sink>(
@@ -74,8 +74,8 @@ fn fill<S: Steps, O: Sink>(
     Ok(Verdict::FullAt(line))
 }
 
-/// Goes on after a line that was done, or ends the run at it: where it wasn't allowed, or a counter
-/// is full, the line that tells of it is written.
+/// Goes on after a line that was done, or ends the run at a line that wasn't: if the line wasn't
+/// allowed, or a counter is full, writes the line that says so.
 #[inline]
 pub fn settle<S: Steps, O: Sink>(
     at: &mut Point<S>,
@@ -98,7 +98,7 @@ pub fn settle<S: Steps, O: Sink>(
     }
 }
 
-/// Ends the run where its input ends: writes what was counted, unless only faults are told.
+/// Ends the run at the end of its input: writes what was counted, unless only faults are written.
 pub fn finish<S: Steps, O: Sink>(
     at: &mut Point<S>,
     say: Say,

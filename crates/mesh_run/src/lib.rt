@@ -1,8 +1,7 @@
-//! The run of a schedule: its lines one after another, and the text that is written. What is
-//! written, and what the run answers, is the text and the verdict that mesh_text defines for the
-//! input's bytes. A state of a run can be held, looked at and gone on with, event by event.
-//! Whatever its world was made of, no destination's valid routes have a loop, and each datum is
-//! accounted for.
+//! The run of a schedule: its lines one after another, and the text that is written. What a run
+//! writes and answers is the text and the verdict that mesh_text defines for the input's bytes. A
+//! state of a run can be held, looked at, and gone on from, event by event. However its world was
+//! made, no destination's valid routes have a loop, and the counts of its data add up.
 #![tactic(auto)]
 
 mod auto;

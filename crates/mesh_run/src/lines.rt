@@ -17,14 +17,14 @@ use mesh_script::parse_line;
 use mesh_world::Steps;
 use std::alloc::Global;
 
-/// Does one line of at most `LONGEST_LINE` bytes, writes its text where `say`, and counts the line.
-/// It never writes a last line: where it answers BadLine or Full, its caller does.
+/// Does one line of at most `LONGEST_LINE` bytes, writes its text if `say`, and counts the line. It
+/// never writes a last line: if it answers BadLine or Full, its caller does.
 ///
-/// BadLine comes exactly where the line isn't allowed, and the state is then as it was. Full comes
-/// exactly where an event of the line would raise a node's counter past its field's greatest value;
-/// the events before it were done and written, and the line isn't counted. After WriteFault or
-/// NoMemory a prefix of the line's events was done, and a prefix of its text written: the state is
-/// one that the line goes through. WriteFault comes exactly where the sink has failed.
+/// BadLine comes exactly where the line isn't allowed, and leaves the state as it was. Full comes
+/// only where an event of the line would raise a node's counter past its field's greatest value;
+/// the events before it were done and, if `say`, written, and the line isn't counted. After
+/// WriteFault or NoMemory a prefix of the line's events was done, and a prefix of its text written:
+/// the state is one that the line goes through. WriteFault comes exactly where the sink has failed.
 pub fn one<'a, S: Steps, O: Sink>(
     alloc: Global,
     at: &mut Point<S>,

@@ -26,7 +26,7 @@ fn totals_of(world: &Option<World>) -> Totals
 {
     match world {
         Some(world) => {
-            // Where its mesh is asked for it is said that the world is sound.
+            // The contract of `mesh` says that the world is sound.
             let _mesh = world.mesh();
             world.totals()
         }
@@ -39,9 +39,9 @@ fn totals_of(world: &Option<World>) -> Totals
 }
 
 impl Point<World> {
-    /// The state of these parts, from which a run goes on as from any other. None exactly where
-    /// the data that were given or doubled are not those that were delivered, wait, are in flight,
-    /// or were dropped.
+    /// The state of these parts, from which a run goes on as from any other. None exactly where the
+    /// number of data that were given or doubled isn't the number of those that were delivered,
+    /// wait, are in flight, or were dropped.
     pub fn from_parts(
         mesh: Mesh,
         variant: Variant,
@@ -56,7 +56,7 @@ impl Point<World> {
         ensures exact { let run_state = run_state_seen variant mesh world (sums_of sums) lines in
             IsSome result ↔ IsBalanced run_state }
     {
-        // Where its size is asked for it is said that these nodes are a mesh.
+        // The contract of `len` says that these nodes are a mesh.
         let _size = mesh.len();
         let totals = totals_of(&world);
         let held = totals.waiting + totals.queued + totals.flying;

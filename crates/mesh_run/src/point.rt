@@ -1,4 +1,4 @@
-//! A state of a run that can be held, looked at and gone on with.
+//! A state of a run that can be held, looked at and gone on from.
 ghost use Rattle.std.specs.Prelude.{◌≡◌, ◌<◌, ◌≤◌, length, is_some, IfOk, OnOk, OnErr, IfErr, IfSome, IsOk, true};
 ghost use Rattle.mesh_base.specs.Bounds.{most_lines, most_steps};
 ghost use Rattle.mesh_base.specs.declared.events.Variant.TheVariants.{Base};
@@ -17,11 +17,11 @@ use std::alloc::Global;
 use std::marker::Model;
 
 /// A state of a run. A contract sees its variant of the protocol, its mesh, its world or none, its
-/// sums, its number of lines, and its number of steps, which is 0 where there is no world.
+/// sums, its number of lines, and its number of steps, which is 0 if there is no world.
 ///
-/// It owns the line that is written, the packet that is cast and the answer that is told, one of
-/// each for a whole run. They are public, since a run borrows them beside the state; no contract
-/// sees them.
+/// It owns the line that is written, the packet that is cast and the answer that is reported, one
+/// of each for a whole run. They are public, since a run borrows them and the state at the same
+/// time; no contract sees them.
 #[derive(Drop)]
 pub struct Point<S: Steps> {
     pub state: State<S>,
@@ -115,7 +115,7 @@ impl<S: Steps> Point<S> {
     }
 
     /// Makes the opening world, unless there is a world. An `Err` changes nothing, and never comes
-    /// where there is a world.
+    /// if there is a world.
     pub fn begin(&mut self, alloc: Global) -> Result<(), NoMemory>
         requires { 1 ≤ length self.old.mesh }
         ensures there { is_some self.old.world ≡ true → IsOk result }
@@ -125,10 +125,10 @@ impl<S: Steps> Point<S> {
         self.state.make_world(alloc)
     }
 
-    /// Does one event, in the opening world where there is none yet, and counts it. The packet that
-    /// is cast is left in `out`. On a refusal the state is as it was: there is still no world
-    /// where there was none. Full comes exactly where the event would raise a counter past its
-    /// field's greatest value.
+    /// Does one event, in the opening world if there is none yet, and counts it. The packet that is
+    /// cast is left in `out`. A refusal leaves the state as it was: if there was no world, there
+    /// still is none. Full comes only where the event would raise a counter past its field's
+    /// greatest value.
     pub fn step(
         &mut self,
         alloc: Global,

@@ -8,21 +8,21 @@ pub enum Say {
     All,
     /// Its last line alone.
     Last,
-    /// Its last line where a line is refused or a counter full, and else nothing.
+    /// Its last line if a line is refused or a counter is full, and otherwise nothing.
     Faults,
 }
 
 impl Say {
     ghost use Rattle.mesh_run.specs.Outputs.{say_by, says_lines};
 
-    /// The text, or its last line alone.
+    /// The last line alone if `quiet`, and otherwise the whole text.
     pub fn by(quiet: bool) -> Say
         ensures { result ≡ say_by quiet }
     {
         if quiet { Say::Last } else { Say::All }
     }
 
-    /// The text of the lines is written.
+    /// Whether the text of the lines is written.
     pub fn says_lines(&self) -> bool
         ensures { result ≡ says_lines self.now }
     {

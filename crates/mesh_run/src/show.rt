@@ -32,7 +32,7 @@ pub enum Shown {
     Flight,
 }
 
-// Writes the line that shows a node, as it stands, and the node's state.
+// Writes the line that shows a node, as it was read, and the node's state.
 fn show_node<S: Steps, O: Sink>(
     at: &mut Point<S>,
     bytes: &[u8],
@@ -56,7 +56,7 @@ fn show_node<S: Steps, O: Sink>(
     put_node(world.mesh(), world.node(node), &mut at.line, out)
 }
 
-// The end of a route.
+// Writes the end of a route.
 fn put_end<O: Sink>(mesh: &Mesh, end: End, buf: &mut LineBuf, out: &mut O) -> Result<(), PutFault>
     requires { IsEndIn (length mesh.now) end }
     ensures text { Puts (O.held out.old) (O.held out.new) (end_text mesh.now (end_in end)) result }
@@ -68,7 +68,7 @@ fn put_end<O: Sink>(mesh: &Mesh, end: End, buf: &mut LineBuf, out: &mut O) -> Re
     }
 }
 
-// Writes the line that shows a route, as it stands, and where the valid routes of the node lead.
+// Writes the line that shows a route, as it was read, and where the valid routes of the node lead.
 fn show_route<S: Steps, O: Sink>(
     at: &mut Point<S>,
     bytes: &[u8],
@@ -94,7 +94,7 @@ fn show_route<S: Steps, O: Sink>(
     put_end(world.mesh(), world.follow(node, dest), &mut at.line, out)
 }
 
-// The copies in flight, by rising id.
+// Writes the copies in flight, by ascending id.
 fn put_copies<O: Sink>(
     mesh: &Mesh,
     radio: &Radio,
@@ -116,7 +116,7 @@ fn put_copies<O: Sink>(
     Ok(())
 }
 
-// Writes the line that shows the copies in flight, as it stands, and the copies.
+// Writes the line that shows the copies in flight, as it was read, and the copies.
 fn show_flight<S: Steps, O: Sink>(
     at: &mut Point<S>,
     bytes: &[u8],
@@ -138,7 +138,7 @@ fn show_flight<S: Steps, O: Sink>(
     put_copies(world.mesh(), world.radio(), &mut at.line, out)
 }
 
-// Writes a line that shows something, as it stands, and what it shows.
+// Writes a line that shows something, as it was read, and what it shows.
 #[tactic(auto, unfolding(mesh_text::specs::Text::outcome_of_line))]
 fn show<S: Steps, O: Sink>(
     at: &mut Point<S>,
@@ -161,7 +161,7 @@ fn show<S: Steps, O: Sink>(
     }
 }
 
-/// Does a line that shows something: writes it as it stands, and what it shows, where `say`.
+/// Does a line that shows something: if `say`, writes it as it was read, and what it shows.
 pub fn do_show<S: Steps, O: Sink>(
     at: &mut Point<S>,
     bytes: &[u8],

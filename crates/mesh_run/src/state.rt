@@ -23,7 +23,7 @@ use std::alloc::Global;
 use std::marker::Model;
 
 /// The state of a run. A contract sees its variant of the protocol, its mesh, its world or none,
-/// its sums, its number of lines, and its number of steps, which is 0 where there is no world.
+/// its sums, its number of lines, and its number of steps, which is 0 if there is no world.
 #[derive(Drop)]
 pub struct State<S: Steps> {
     variant: Variant,
@@ -104,7 +104,7 @@ impl<S: Steps> State<S> {
         &self.mesh
     }
 
-    /// Whether a line was neither blank nor a `node` line.
+    /// Whether the run has started: there is a world.
     pub fn started(&self) -> bool
         ensures value { result ≡ is_some self.now.world }
         ensures sized { length (model.world_of self.now).nodes ≤ MOST_NODES }
@@ -126,8 +126,8 @@ impl<S: Steps> State<S> {
         self.lines
     }
 
-    /// The world, where one was made. It has the invariant, and no destination's valid routes have
-    /// a loop.
+    /// The world, if one was made. It has the invariant, and no destination's valid routes have a
+    /// loop.
     pub fn world(&self) -> Option<&S>
         ensures safe { IsSafe self.now }
         ensures variant { IfSome self.now.world (AreOfVariant self.now.variant) }
@@ -139,7 +139,7 @@ impl<S: Steps> State<S> {
         self.world.as_ref()
     }
 
-    /// What is said at the end of the run.
+    /// What is written at the end of the run.
     pub fn summary(&self) -> Summary
         ensures safe { IsSafe self.now }
         ensures sums { sums_of result.sums ≡ self.now.sums }
@@ -156,7 +156,7 @@ impl<S: Steps> State<S> {
         }
     }
 
-    // The data of the world; there are none before the run has started.
+    // The data of the world; before the run has started there are none.
     fn totals(&self) -> Totals
         ensures waiting { result.waiting ≡ waiting any (model.world_of self.now) }
         ensures queued { result.queued ≡ queued_data any (model.world_of self.now) }
@@ -191,7 +191,7 @@ impl<S: Steps> State<S> {
         }
     }
 
-    /// Does one event in the world that is there, and counts it.
+    /// Does one event in the world that was made, and counts it.
     #[inline(always)]
     pub fn step_made(
         &mut self,
@@ -218,7 +218,7 @@ impl<S: Steps> State<S> {
         answer
     }
 
-    /// The same, but that what came of the event is left in `answer` where it is wanted; else
+    /// As `step_made`, but what came of the event is left in `answer` if it is wanted; otherwise
     /// `answer` may hold any answer.
     #[inline(always)]
     pub fn step_counted(
@@ -251,9 +251,9 @@ impl<S: Steps> State<S> {
         }
     }
 
-    /// Does two events as one where the delivery of this copy is the event to be chosen: that, and
-    /// the turn of its receiver, which is the one to be chosen then. Both are counted. Where the
-    /// answer is false this isn't done, whatever the cause is, and nothing is changed.
+    /// Does two events together: the delivery of this copy, which is the event to be chosen, and
+    /// the turn of its receiver, which has to be the event to be chosen then. Both are counted. If
+    /// the answer is false, for whatever reason, nothing is changed.
     #[inline(always)]
     pub fn take_copy(&mut self, id: u64, out: &mut Packet) -> bool
         requires made { is_some self.old.world ≡ true }
@@ -274,7 +274,8 @@ impl<S: Steps> State<S> {
         true
     }
 
-    /// Does the first event. The world is kept only where the event was done.
+    /// Makes the opening world and does the first event in it. The world is kept only if the event
+    /// was done.
     #[cold]
     pub fn first_step(
         &mut self,
@@ -302,7 +303,7 @@ impl<S: Steps> State<S> {
         }
     }
 
-    /// Makes the opening world, where the line is neither blank nor of a node and the run hasn't
+    /// Makes the opening world if the line is neither blank nor a `node` line and the run hasn't
     /// started. An `Err` changes nothing, and never comes once the run has started.
     pub fn begin(&mut self, alloc: Global, line: &Line<'_>) -> Result<(), NoMemory>
         requires { IsAllowed self.old.mesh (is_some self.old.world) line.now }
@@ -331,7 +332,7 @@ impl<S: Steps> State<S> {
         self.open(alloc)
     }
 
-    // Makes the opening world. It stands apart, so that no other line pays for its frame.
+    // Makes the opening world. It isn't inlined, so that no other line pays for its frame.
     #[cold]
     #[inline(never)]
     fn open(&mut self, alloc: Global) -> Result<(), NoMemory>

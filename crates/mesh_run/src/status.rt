@@ -9,7 +9,7 @@ use mesh_text::Verdict;
 pub enum Status {
     /// The input was read to its end, and every line was allowed and done.
     Done,
-    /// The words of the command line are of no form.
+    /// The words of the command line are in none of the program's forms.
     Usage,
     /// This line, counted from 1, isn't allowed.
     BadLine { line: u64 },
@@ -20,14 +20,14 @@ pub enum Status {
     ReadFault,
     /// The sink failed.
     WriteFault,
-    /// Memory was asked for and not found.
+    /// Memory ran out.
     NoMemory,
 }
 
 impl Status {
     ghost use Rattle.mesh_run.specs.Codes.{status_of, code_of};
 
-    /// What a run answers, by what its script has come to.
+    /// What a run answers, by what its script came to.
     pub fn of(answer: Result<Verdict, Fault>) -> Status
         ensures { result ≡ status_of answer }
     {

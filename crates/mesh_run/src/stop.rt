@@ -23,7 +23,7 @@ pub enum Stop<'a> {
     NoMemory,
 }
 
-/// Why an event wasn't done, or not written whole. Which event it is, the caller knows.
+/// Why an event wasn't done, or not written whole. The caller knows which event it is.
 #[derive(Clone, Copy)]
 pub enum EventStop {
     /// The event would raise this counter of its node past its field's greatest value.
@@ -50,7 +50,7 @@ impl EventStop {
     }
 }
 
-// The node at which an event is. A link or a copy is at none, and 0 stands for that.
+// The node at which an event happens. An event of a link or a copy has none; 0 is returned for it.
 fn node_of(event: &Event<'_>) -> usize
     ensures { result ≡ node_of (event_of event.now) }
 {

@@ -12,7 +12,7 @@ use mesh_base::Event;
 use mesh_report::Sums;
 use mesh_world::EventCounts;
 
-// Whether a datum is given.
+// Whether the event gives a datum.
 fn is_give(e: &Event<'_>) -> bool
     ensures { result ≡ is_give (event_of e.now) }
 {

@@ -20,7 +20,7 @@ use mesh_text::Verdict;
 use mesh_world::Steps;
 use std::alloc::Global;
 
-/// Does one allowed line and counts it, or ends the run. Of its text only a last line is written.
+/// Does one allowed line and counts it, or ends the run. It writes nothing but a last line.
 pub fn do_value<S: Steps, O: Sink>(
     alloc: Global,
     at: &mut Point<S>,
@@ -40,7 +40,7 @@ pub fn do_value<S: Steps, O: Sink>(
     ensures cause { HasFaultCause Fault.WriteFault (O.faults out.old) (O.faults out.new) result }
     ensures read { ¬ IsErrOf result Fault.ReadFault }
 {
-    // A world has no more nodes than a mesh may have.
+    // The contract of `started` says that a world has no more nodes than a mesh may have.
     let _started = at.state.started();
     let did = do_line(alloc, at, &[], line, false, out);
     settle(at, did, out)

@@ -51,11 +51,11 @@ copies_bytes = (model.copies 0 0).put
 abbrev pub world_bytes : World → List ℕ
 world_bytes = (model.world 0).put
 
--- the bytes of what is there, if something is
+-- the bytes of a value, if there is one
 abbrev pub bytes_if : {A : Type 0} → (A → List ℕ) → Option A → List ℕ
 bytes_if put None = []
 bytes_if put (Some x) = put x
 
--- the bytes, where it is so
+-- the bytes, if b holds
 abbrev pub bytes_where : Bool → List ℕ → List ℕ
 bytes_where b bytes = if b then bytes else []

@@ -5,7 +5,7 @@ use Rattle.aodv_model.specs.Pairs.{Pairs}
 use Rattle.aodv_asked.specs.Requests.{ids_below}
 use Rattle.mesh_checkpoint.specs.Checkpoint.{Link}
 
--- the link of two nodes, which stands where it is among these
+-- the link of two nodes, which stands if it is among these
 abbrev pub link_of : Pairs → ℕ × ℕ → Link
 link_of links p = record { a = p.0; b = p.1; stands = sets.contains links p }
 

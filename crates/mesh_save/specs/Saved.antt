@@ -8,7 +8,7 @@ use Rattle.mesh_checkpoint.specs.Checkpoint.{body}
 use Rattle.mesh_checkpoint.specs.State.{magic}
 use Rattle.mesh_checkpoint.specs.Points.{body_of, IsState}
 
--- a state's body behind a head that states this length
+-- a state's body, after a head that states this length
 abbrev pub checkpoint_stating : ℕ → RunState → List ℕ
 checkpoint_stating count m = magic ++ (to_be_bytes w32 count ++ body.put (body_of m))
 
@@ -18,7 +18,7 @@ pub record IsWritten (m : RunState) (before now : Option (List ℕ)) : Type 0 wh
   pub state : IsState bytes m
   pub grown : Appends before now bytes
 
--- a prefix of it was written
+-- a prefix of the checkpoint of a state was written
 pub record IsCut (m : RunState) (before now : Option (List ℕ)) : Type 0 where
   pub bytes : List ℕ
   pub state : IsState bytes m

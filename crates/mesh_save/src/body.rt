@@ -1,4 +1,4 @@
-//! The body of a state, as it is put.
+//! Putting the body of a state into an encoder.
 ghost use Rattle.std.specs.Prelude.{◌≡◌, length, IfSome};
 ghost use Rattle.std.specs.List.{flat_map};
 ghost use Rattle.mesh_base.specs.Meshes.{IsMesh};
@@ -27,7 +27,7 @@ fn variant_byte(variant: Variant) -> u8
     }
 }
 
-// The variant and the sums.
+// Puts the variant, the number of lines, and the sums.
 fn put_head<P: Encoder>(encoder: &mut P, point: &Point<World>)
     ensures { P.wrote encoder.old (model.head.put (head_of point.now)) encoder.new }
 {
@@ -42,7 +42,7 @@ fn put_head<P: Encoder>(encoder: &mut P, point: &Point<World>)
     put64(encoder, sums.copied);
 }
 
-// The nodes of the mesh, behind their number.
+// Puts the nodes of the mesh, after their number.
 fn put_mesh<P: Encoder>(encoder: &mut P, mesh: &Mesh)
     ensures { P.wrote encoder.old (model.mesh.put mesh.now) encoder.new }
 {
@@ -54,7 +54,7 @@ fn put_mesh<P: Encoder>(encoder: &mut P, mesh: &Mesh)
     }
 }
 
-// The nodes of a world.
+// Puts the nodes of a world.
 fn put_nodes<P: Encoder>(encoder: &mut P, world: &World)
     ensures bytes { P.wrote encoder.old
         (flat_map (λ n. node_bytes (node_of world.now.mesh n)) world.now.world.nodes) encoder.new }
@@ -66,7 +66,7 @@ fn put_nodes<P: Encoder>(encoder: &mut P, world: &World)
     }
 }
 
-// A world.
+// Puts a world.
 fn put_world<P: Encoder>(encoder: &mut P, world: &World)
     ensures bytes { let body = world_after world.now.steps world.now.mesh world.now.world in
         P.wrote encoder.old (world_bytes body) encoder.new }
@@ -81,7 +81,7 @@ fn put_world<P: Encoder>(encoder: &mut P, world: &World)
     put_copies(encoder, radio);
 }
 
-/// The body of a state.
+/// Puts the body of a state.
 pub(crate) fn put_body<P: Encoder>(encoder: &mut P, point: &Point<World>)
     ensures bytes { P.wrote encoder.old (model.body.put (body_of point.now)) encoder.new }
     ensures mesh { IsMesh point.now.mesh }

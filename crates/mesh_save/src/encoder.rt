@@ -6,7 +6,7 @@ ghost use Rattle.mesh_save.specs.EncoderLaws.{measured_nothing, measured_both, w
 use arrayvec::ArrayVec;
 use mesh_io::{Sink, put_all};
 
-/// How many bytes are gathered before they are written to a sink.
+/// The most bytes that are gathered before they are written to a sink.
 const GATHERED: usize = 2048;
 
 /// What takes the bytes of a body, one piece after another.
@@ -18,7 +18,7 @@ pub(crate) trait Encoder {
     fn put(&mut self, piece: &[u8])
         ensures { wrote self.old piece.now self.new };
 
-    /// Nothing was taken where nothing has changed.
+    /// If nothing has changed, nothing was taken.
     ghost nothing: { (p : Self) → wrote p [] p };
 
     /// What was taken in two parts was taken as a whole.
@@ -66,7 +66,7 @@ impl<S: Sink> BufferedWriter<S> {
         self.gathered.clear();
     }
 
-    // Takes the piece, where nothing is gathered.
+    // Takes the piece, while nothing is gathered.
     fn put_first(&mut self, piece: &[u8])
         requires sound { self.old.failed ≡ false }
         requires nothing { self.old.gathered.items ≡ [] }
@@ -80,7 +80,7 @@ impl<S: Sink> BufferedWriter<S> {
         }
     }
 
-    // Takes the piece, for which there is no room behind what is gathered.
+    // Takes the piece, for which there is no room after what is gathered.
     fn put_behind(&mut self, piece: &[u8])
         requires { self.old.failed ≡ false }
         ensures { HasWritten false self.new.failed

@@ -1,4 +1,4 @@
-//! What waits in an inbox, as it is put.
+//! Putting what waits in an inbox into an encoder.
 ghost use Rattle.mesh_save.specs.Bytes.{item_bytes, inbox_bytes};
 
 use crate::encoder::Encoder;
@@ -6,7 +6,7 @@ use crate::fields::{put_text, put_truth, put16, put32};
 use aodv_inbox::Inbox;
 use mesh_base::Item;
 
-// An item.
+// Puts an item.
 fn put_item<P: Encoder>(encoder: &mut P, item: &Item)
     ensures { P.wrote encoder.old (item_bytes item.now) encoder.new }
 {
@@ -24,7 +24,7 @@ fn put_item<P: Encoder>(encoder: &mut P, item: &Item)
     }
 }
 
-/// The inbox, behind the number of its items.
+/// Puts the inbox, after the number of its items.
 pub(crate) fn put_inbox<P: Encoder>(encoder: &mut P, inbox: &Inbox)
     ensures { P.wrote encoder.old (inbox_bytes inbox.now.items) encoder.new }
 {

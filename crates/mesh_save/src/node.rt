@@ -1,4 +1,4 @@
-//! A node, as it is put.
+//! Putting a node into an encoder.
 ghost use Rattle.std.specs.Prelude.{◌≡◌, ◌≤◌};
 ghost use Rattle.mesh_base.specs.declared.limits.TheConstants.{MOST_NODES};
 ghost use Rattle.mesh_checkpoint.specs.Seen.{listed_node};
@@ -13,7 +13,7 @@ use crate::routes::put_routes;
 use crate::store::put_store;
 use aodv_node::Node;
 
-/// A node of a mesh of so many.
+/// Puts a node of a mesh of this many.
 pub(crate) fn put_node<P: Encoder>(encoder: &mut P, node: &Node, nodes: usize)
     requires size { node.now.size ≡ nodes }
     requires few { nodes ≤ MOST_NODES }

@@ -1,4 +1,4 @@
-//! The links and the copies in flight, as they are put.
+//! Putting the links and the copies in flight into an encoder.
 ghost use Rattle.std.specs.Prelude.{◌≡◌, ◌<◌, ◌≤◌, length};
 ghost use Rattle.std.specs.FinSet as sets;
 ghost use Rattle.std.specs.List.{flat_map};
@@ -13,14 +13,14 @@ use crate::fields::{put_text, put_truth, put16, put32, put64};
 use mesh_base::FlyingView;
 use mesh_radio::Radio;
 
-// With how many nodes above it a node's link has ever stood.
+// How many of a node's links to the nodes above it have ever stood.
 fn count_links_of(radio: &Radio, a: usize, nodes: usize) -> u64
     requires size { radio.now.size ≡ nodes }
     requires within { a < nodes }
     ensures count { result ≡ length (pairs_from radio.now.ever a nodes) }
     ensures few { result ≤ nodes }
 {
-    // It says that the second node of a link is above the first.
+    // Its contract says that the second node of a link is above the first.
     let _count = radio.count();
     let mut count = 0;
     for b in a + 1..nodes {
@@ -35,7 +35,7 @@ fn count_links(radio: &Radio, nodes: usize) -> u64
     requires few { nodes ≤ MOST_NODES }
     ensures { result ≡ length (links_of radio.now.ever radio.now.links) }
 {
-    // It says that links are between nodes of the mesh.
+    // Its contract says that links are between nodes of the mesh.
     let _count = radio.count();
     let mut count = 0;
     for a in 0..nodes {
@@ -44,7 +44,7 @@ fn count_links(radio: &Radio, nodes: usize) -> u64
     count
 }
 
-// The link between two nodes, if it has ever stood.
+// Puts the link between two nodes, if it has ever stood.
 fn put_link<P: Encoder>(encoder: &mut P, radio: &Radio, a: usize, b: usize)
     requires rising { a < b }
     requires within { b < radio.now.size }
@@ -59,7 +59,7 @@ fn put_link<P: Encoder>(encoder: &mut P, radio: &Radio, a: usize, b: usize)
     }
 }
 
-// The links of a node to those above it.
+// Puts the links of a node to those above it that have ever stood.
 fn put_links_of<P: Encoder>(encoder: &mut P, radio: &Radio, a: usize, nodes: usize)
     requires size { radio.now.size ≡ nodes }
     requires within { a < nodes }
@@ -67,21 +67,21 @@ fn put_links_of<P: Encoder>(encoder: &mut P, radio: &Radio, a: usize, nodes: usi
         (flat_map (λ p. link_bytes (link_of radio.now.links p))
         (pairs_from radio.now.ever a nodes)) encoder.new }
 {
-    // It says that the second node of a link is above the first.
+    // Its contract says that the second node of a link is above the first.
     let _count = radio.count();
     for b in a + 1..nodes {
         put_link(encoder, radio, a, b);
     }
 }
 
-/// The links that have ever stood, behind their number.
+/// Puts the links that have ever stood, after their number.
 pub(crate) fn put_links<P: Encoder>(encoder: &mut P, radio: &Radio, nodes: usize)
     requires size { radio.now.size ≡ nodes }
     requires few { nodes ≤ MOST_NODES }
     ensures { P.wrote encoder.old
         (links_bytes (links_of radio.now.ever radio.now.links)) encoder.new }
 {
-    // It says that links are between nodes of the mesh.
+    // Its contract says that links are between nodes of the mesh.
     let _count = radio.count();
     put16(encoder, count_links(radio, nodes));
     for a in 0..nodes {
@@ -89,7 +89,7 @@ pub(crate) fn put_links<P: Encoder>(encoder: &mut P, radio: &Radio, nodes: usize
     }
 }
 
-// A copy.
+// Puts a copy.
 fn put_copy<P: Encoder>(encoder: &mut P, copy: &FlyingView<'_>)
     ensures { P.wrote encoder.old (copy_bytes (flying_seen copy.now)) encoder.new }
 {
@@ -99,7 +99,7 @@ fn put_copy<P: Encoder>(encoder: &mut P, copy: &FlyingView<'_>)
     put_text(encoder, copy.bytes);
 }
 
-/// The copies in flight, behind their number.
+/// Puts the copies in flight, after their number.
 pub(crate) fn put_copies<P: Encoder>(encoder: &mut P, radio: &Radio)
     ensures { P.wrote encoder.old (copies_bytes radio.now.flying) encoder.new }
 {

@@ -1,4 +1,4 @@
-//! The requests that a node has seen, as they are put.
+//! Putting the requests that a node has seen into an encoder.
 ghost use Rattle.std.specs.Prelude.{◌≡◌, ◌<◌, ◌≤◌, ◌^◌, length};
 ghost use Rattle.std.specs.List.{flat_map};
 ghost use Rattle.aodv_model.specs.Cores.{next_request_id};
@@ -11,10 +11,10 @@ use crate::encoder::Encoder;
 use crate::fields::{put16, put32};
 use aodv_asked::Asked;
 
-/// How many numbers have 32 bits.
+/// How many numbers of 32 bits there are.
 const NUMBERS: u64 = 4_294_967_296;
 
-// The end of the ids of a node's requests.
+// The id that comes after those of an originator's requests.
 fn end_of(asked: &Asked, origin: usize) -> u64
     requires { origin < length asked.now.rooms }
     ensures end { result ≡ next_request_id asked.now.pairs origin }
@@ -26,13 +26,13 @@ fn end_of(asked: &Asked, origin: usize) -> u64
     }
 }
 
-// How many requests of a node were seen.
+// How many requests of an originator were seen.
 fn count_of(asked: &Asked, origin: usize) -> u64
     requires { origin < length asked.now.rooms }
     ensures count { result ≡ length (ids_beside asked.now.pairs origin) }
     ensures few { next_request_id asked.now.pairs origin ≤ 2 ^ 32 }
 {
-    // It says that the ids have 32 bits.
+    // Its contract says that the ids have 32 bits.
     let _end = end_of(asked, origin);
     asked.count(origin)
 }
@@ -44,7 +44,7 @@ fn count_asked(asked: &Asked, nodes: usize) -> u64
     ensures count { result ≡ length (pairs_in asked.now.pairs) }
     ensures ids { AreRequestsOf nodes asked.now.pairs }
 {
-    // It says that each request is of a node of the mesh.
+    // Its contract says that each request is of a node of the mesh.
     let nodes = asked.nodes();
     let mut count = 0;
     for origin in 0..nodes {
@@ -53,7 +53,7 @@ fn count_asked(asked: &Asked, nodes: usize) -> u64
     count
 }
 
-// The requests of a node that were seen.
+// Puts the requests of an originator that were seen.
 fn put_requests_of<P: Encoder>(encoder: &mut P, asked: &Asked, origin: usize)
     requires { origin < length asked.now.rooms }
     ensures { P.wrote encoder.old
@@ -67,7 +67,7 @@ fn put_requests_of<P: Encoder>(encoder: &mut P, asked: &Asked, origin: usize)
     }
 }
 
-/// The requests that were seen, behind their number.
+/// Puts the requests that were seen, after their number.
 pub(crate) fn put_asked<P: Encoder>(encoder: &mut P, asked: &Asked, nodes: usize)
     requires size { length asked.now.rooms ≡ nodes }
     requires few { nodes ≤ 256 }

@@ -1,4 +1,4 @@
-//! The routes of a node, as they are put.
+//! Putting the routes of a node into an encoder.
 ghost use Rattle.std.specs.Prelude.{◌≡◌, ◌<◌, length, IfSome};
 ghost use Rattle.std.specs.FinMap as maps;
 ghost use Rattle.mesh_base.specs.Members.{member_list};
@@ -14,7 +14,7 @@ use aodv_model::{Entry, Flag, Known};
 use aodv_node::Node;
 use mesh_base::NodeSet;
 
-// The members of a set, behind their number.
+// Puts the members of a set, after their number.
 fn put_members<P: Encoder>(encoder: &mut P, set: &NodeSet)
     ensures { P.wrote encoder.old (indices_bytes (member_list set.now)) encoder.new }
 {
@@ -40,7 +40,7 @@ fn is_valid(entry: &Entry) -> bool
     entry.flag == Flag::Val
 }
 
-// The route to a destination.
+// Puts the route to a destination.
 fn put_route<P: Encoder>(encoder: &mut P, dest: usize, entry: &Entry)
     ensures { P.wrote encoder.old (route_bytes (route_of (dest, entry.now))) encoder.new }
 {
@@ -53,7 +53,7 @@ fn put_route<P: Encoder>(encoder: &mut P, dest: usize, entry: &Entry)
     put_members(encoder, &entry.pre);
 }
 
-// The route to a destination, if there is one.
+// Puts the route to a destination, if there is one.
 fn put_route_to<P: Encoder>(encoder: &mut P, node: &Node, dest: usize)
     requires { dest < node.now.size }
     ensures narrow { IfSome (maps.get node.now.core.rt dest) IsNarrowEntry }
@@ -79,7 +79,7 @@ fn count_routes(node: &Node, nodes: usize) -> u64
     count
 }
 
-/// The routes of a node, behind their number.
+/// Puts the routes of a node, after their number.
 pub(crate) fn put_routes<P: Encoder>(encoder: &mut P, node: &Node, nodes: usize)
     requires size { node.now.size ≡ nodes }
     requires sound { IsSoundTable nodes node.now.core.ip node.now.core.rt }

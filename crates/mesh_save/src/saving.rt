@@ -25,7 +25,7 @@ use thiserror::Error;
 /// Why no checkpoint was written.
 #[derive(Clone, Copy, Debug, PartialEq, Eq, Error)]
 pub enum SaveError {
-    /// The body would be longer than the longest. Nothing was written.
+    /// The body would be longer than `LONGEST_BODY`. Nothing was written.
     #[error("a body that is too long")]
     TooBig,
     /// The sink has failed.
@@ -47,7 +47,7 @@ fn measure(point: &Point<World>) -> u64
     counter.length
 }
 
-// The checkpoint of a state, whose body has so many bytes.
+// Puts the checkpoint of a state, whose head says that the body has `length` bytes.
 fn put_checkpoint<P: Encoder>(encoder: &mut P, point: &Point<World>, length: u64)
     ensures { P.wrote encoder.old (checkpoint_stating length point.now) encoder.new }
 {
@@ -70,7 +70,7 @@ fn write_gathered<S: Sink>(writer: &mut BufferedWriter<S>, point: &Point<World>,
     }
 }
 
-// Writes it to a sink, which comes back.
+// Writes the checkpoint to a sink, up to its first fault, and returns the sink.
 fn write_through<'s, O: Sink, L: Loan>(
     point: &Point<World>,
     length: u64,
@@ -101,19 +101,19 @@ fn write_through<'s, O: Sink, L: Loan>(
     to
 }
 
-// Writes it to a sink: whether that has failed.
+// Writes the checkpoint to a sink, up to its first fault. Answers whether there was one.
 fn write_out<O: Sink>(point: &Point<World>, length: u64, out: &mut O) -> bool
     ensures { IsPut (checkpoint_stating length point.now) result
         (O.held out.old) (O.held out.new) (O.faults out.old) (O.faults out.new) }
 {
     let mut failed = false;
-    // It says that what comes back is `out`, as the buffer has left it.
+    // Its contract says that the sink that it returns is `out`, as the buffer has left it.
     let _out = write_through::<O, Brand>(point, length, out, &mut failed);
     failed
 }
 
 /// Writes the checkpoint of a state. Its body is measured first, and then written, many bytes at a
-/// time. It takes no memory.
+/// time. No memory is allocated.
 pub fn save<O: Sink>(point: &Point<World>, out: &mut O) -> Result<(), SaveError>
     requires steps { point.now.steps ≤ limits.MOST_STEPS }
     requires next { (world_of point.now).next_copy ≤ limits.GREATEST_NEXT_ID }

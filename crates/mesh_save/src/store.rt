@@ -1,4 +1,4 @@
-//! The data that wait for a route, as they are put.
+//! Putting the data that wait for a route into an encoder.
 ghost use Rattle.std.specs.Prelude.{◌≡◌, ◌<◌, length};
 ghost use Rattle.std.specs.FinMap as maps;
 ghost use Rattle.aodv_model.specs.Cores.{bodies_in, needs_in};
@@ -10,7 +10,7 @@ use crate::encoder::Encoder;
 use crate::fields::{put_text, put_truth, put16, put32};
 use aodv_waiting::Waiting;
 
-// What waits for a destination.
+// Puts what waits for a destination.
 fn put_waits<P: Encoder>(encoder: &mut P, waiting: &Waiting, dest: usize)
     requires { dest < length waiting.now.rooms }
     ensures { P.wrote encoder.old (waits_bytes (record {
@@ -28,7 +28,7 @@ fn put_waits<P: Encoder>(encoder: &mut P, waiting: &Waiting, dest: usize)
     }
 }
 
-// What waits for a destination, if something does.
+// Puts what waits for a destination, if anything does.
 fn put_waits_for<P: Encoder>(encoder: &mut P, waiting: &Waiting, dest: usize)
     requires dest { dest < length waiting.now.rooms }
     requires sound { IsStoreInMesh (length waiting.now.rooms) waiting.now.store }
@@ -54,7 +54,7 @@ fn count_waits(waiting: &Waiting, nodes: usize) -> u64
     count
 }
 
-/// The store, behind the number of destinations for which data wait.
+/// Puts the store, after the number of destinations for which data wait.
 pub(crate) fn put_store<P: Encoder>(encoder: &mut P, waiting: &Waiting, nodes: usize)
     requires size { length waiting.now.rooms ≡ nodes }
     requires sound { IsStoreInMesh nodes waiting.now.store }

@@ -1,4 +1,4 @@
--- The arguments of a line of the program, as the definitions have them.
+-- The definitions' arguments for the code's.
 use Rattle.std.specs.Prelude.{ℕ, ◌+◌, ◌*◌, length, Result, Ok, Err}
 use Rattle.mesh_base.specs.declared.addr.Addr.{Addr}
 use Rattle.mesh_grammar.specs.declared.fault.LineFault.{LineFault}
@@ -12,7 +12,7 @@ use Rattle.mesh_script.specs.declared.words.SpannedAddr.{SpannedAddr}
 abbrev pub spanned_of : SpannedAddr → words.SpannedAddr
 spanned_of a = record { address = (a.addr).0; span = a.span }
 
--- arguments with what the definitions have for each address
+-- the definitions' arguments for the code's, with `f` of each address
 abbrev pub arguments_by : {A B : Type 0} → (A → B) → Arguments A → forms.Arguments B
 arguments_by f arguments.NoArgument = forms.NoArgument
 arguments_by f (arguments.OneAddress a) = forms.OneAddress (f a)
@@ -23,7 +23,7 @@ arguments_by f (arguments.AddressesAndText a b text) = forms.AddressesAndText (f
 arguments_by f (arguments.AddressAndNumber a n) = forms.AddressAndNumber (f a) n
 arguments_by f (arguments.AddressAndText a text) = forms.AddressAndText (f a) text.now
 
--- as they are read, indexed in a mesh, and written
+-- the definitions' arguments for the code's as they are read, indexed in a mesh, and written
 abbrev pub all_spanned_of : Arguments SpannedAddr → forms.Arguments words.SpannedAddr
 all_spanned_of a = arguments_by spanned_of a
 
@@ -33,7 +33,7 @@ indices_of a = arguments_by (λ x. x) a
 abbrev pub addresses_of : Arguments Addr → forms.Arguments ℕ
 addresses_of a = arguments_by (λ x. x.0) a
 
--- the same, where there is no fault
+-- the definitions' arguments for the code's as they are read and indexed, or the fault
 abbrev pub all_spanned_in : Result (Arguments SpannedAddr) LineFault
     → Result (forms.Arguments words.SpannedAddr) LineFault
 all_spanned_in (Ok a) = Ok (all_spanned_of a)
@@ -43,8 +43,8 @@ abbrev pub indices_in : Result (Arguments ℕ) LineFault → Result (forms.Argum
 indices_in (Ok a) = Ok (indices_of a)
 indices_in (Err f) = Err f
 
--- the most bytes that arguments have as they are written, each after its space; an address with its
--- number has the word "sn" between them
+-- the most bytes that written arguments have, each with the space before it; between an address and
+-- its number is the word "sn"
 abbrev pub width_of : forms.Arguments ℕ → ℕ
 width_of forms.NoArgument = 0
 width_of (forms.OneAddress a) = ADDRESS_ARGUMENT

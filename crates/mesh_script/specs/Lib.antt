@@ -1,8 +1,7 @@
 -- Read in this order.
--- Arguments: the arguments of a line of the program, as the definitions have them.
+-- Arguments: the definitions' arguments for the code's.
 pub mod Arguments
--- Shapes: a line of the program by itself, as the definitions have it.
+-- Shapes: what a line says by itself in the definitions, for what the code reads.
 pub mod Shapes
--- Seen: a line of the program as the definitions have it, and what is known of one that is allowed
--- or printed.
+-- Seen: the definitions' line for the code's, and what is known of one that is allowed or printed.
 pub mod Seen

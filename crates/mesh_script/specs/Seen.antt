@@ -1,4 +1,4 @@
--- A line of the program as the definitions have it, and what is known of one that is allowed.
+-- The definitions' line for the code's, and what is known of one that is allowed or printed.
 use Rattle.std.specs.Prelude.{◌≡◌, ◌^◌, Bool, Result, Ok, Err, nat_lt, if◌then◌else◌}
 use Rattle.mesh_base.specs.Meshes.{Nodes}
 use Rattle.mesh_meaning.specs.Events.{event_of}
@@ -22,20 +22,21 @@ abbrev pub seen_line : Result Line LineFault → Result AcceptedLine LineFault
 seen_line (Ok l) = Ok (accepted_of l)
 seen_line (Err f) = Err f
 
--- a line of the program has a count of 32 bits: with a greater one it has a fault
+-- a line of the code has a count of 32 bits: a greater one is a fault
 abbrev pub short_count : Result AcceptedLine LineFault → Result AcceptedLine LineFault
 short_count (Ok (Chooses count)) = if nat_lt count (2 ^ 32) then Ok (Chooses count) else Err Count
 short_count others = others
 
--- whether there is a node
+-- the code's answer on whether the mesh has a node agrees with `after_nodes`
 abbrev pub HasNodes : Nodes → Result (Unit {0}) LineFault → Type 0
 HasNodes mesh (Ok u) = (line : Result AcceptedLine LineFault) → after_nodes mesh line ≡ line
 HasNodes mesh (Err f) = (line : Result AcceptedLine LineFault) → after_nodes mesh line ≡ Err f
 
--- a line for a mesh: a node is not in it yet, and finds room; what the other lines name is in it
+-- a line for a mesh: a new node isn't in the mesh yet, and has room; the nodes that other lines
+-- name are in the mesh
 abbrev pub IsPrintable : Nodes → Line → Type 0
 IsPrintable mesh l = IsInRange mesh (accepted_of l)
 
--- what is known of a line that is allowed: a node, besides, comes before the run has started
+-- what is known of a line that is allowed: besides, a new node comes before the run has started
 abbrev pub IsAllowed : Nodes → Bool → Line → Type 0
 IsAllowed mesh started l = IsInRange mesh (accepted_of l) × IsInTime started (accepted_of l)

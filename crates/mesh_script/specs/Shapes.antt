@@ -1,4 +1,4 @@
--- A line of the program by itself, as the definitions have it.
+-- What a line says by itself in the definitions, for what the code reads.
 use Rattle.std.specs.Prelude.{ℕ, List, Option, Some, None, Result, Ok, Err}
 use Rattle.mesh_grammar.specs.declared.command.Command.{Command}
 use Rattle.mesh_grammar.specs.declared.fault.LineFault.{LineFault}
@@ -8,7 +8,7 @@ use Rattle.mesh_script.specs.declared.shape.Row.{Row}
 use Rattle.mesh_script.specs.declared.shape.Shape.{Shape}
 use Rattle.mesh_script.specs.Arguments.{all_spanned_of}
 
--- the row of this word
+-- the definitions' row for the code's, with this word
 abbrev pub row_with : List ℕ → Row → scripts.Row Command
 row_with word r = record { command = r.command; word = word; form = r.form }
 

@@ -10,7 +10,7 @@ use crate::parse::after_nodes;
 use crate::words::number;
 use mesh_base::{Event, Mesh, are_equal};
 
-// A turn of the node that this is the address of, where there is one.
+// A turn of the node that has this address, if there is one.
 #[tactic(auto, using(crate::proofs::FastLines::turn_line))]
 fn turn<'a>(word: &[u8], mesh: &Mesh) -> Option<Line<'a>>
     ensures { IfSome result (λ l. (started : Bool) → line_of mesh.now started
@@ -21,7 +21,7 @@ fn turn<'a>(word: &[u8], mesh: &Mesh) -> Option<Line<'a>>
     Some(Line::Step(Event::Turn { node }))
 }
 
-// The delivery of the copy that this is the id of, where there is a node.
+// The delivery of the copy with this id, if the mesh has a node.
 #[tactic(auto, using(crate::proofs::FastLines::delivery_line))]
 fn delivery<'a>(word: &[u8], mesh: &Mesh) -> Option<Line<'a>>
     requires { 8 + length word.now < slice_end }
@@ -33,7 +33,7 @@ fn delivery<'a>(word: &[u8], mesh: &Mesh) -> Option<Line<'a>>
     Some(Line::Step(Event::Deliver { id }))
 }
 
-// What follows `turn` and its space.
+// What follows `turn` and its space, if the bytes begin with them.
 #[inline(always)]
 fn after_turn(bytes: &[u8]) -> Option<&[u8]>
     ensures { IfSome result (λ word. bytes.now ≡ 116 ∷ 117 ∷ 114 ∷ 110 ∷ 32 ∷ word.now) }
@@ -45,7 +45,7 @@ fn after_turn(bytes: &[u8]) -> Option<&[u8]>
     }
 }
 
-// What follows `deliver` and its space.
+// What follows `deliver` and its space, if the bytes begin with them.
 #[inline(always)]
 fn after_deliver(bytes: &[u8]) -> Option<&[u8]>
     ensures { IfSome result
@@ -60,7 +60,7 @@ fn after_deliver(bytes: &[u8]) -> Option<&[u8]>
     }
 }
 
-/// A turn or a delivery that is allowed. None says nothing of the line.
+/// A turn or a delivery that is allowed. None says nothing about the line.
 #[inline(always)]
 pub fn fast_line<'a>(bytes: &'a [u8], mesh: &Mesh) -> Option<Line<'a>>
     ensures { IfSome result

@@ -9,9 +9,8 @@ use crate::words::{SpannedAddr, address, next_at, number, text};
 use mesh_base::cut;
 use mesh_grammar::{Form, LineFault};
 
-/// The arguments of a command, in which an `A` stands for each address: an address with its span
-/// where a line is read, a node's index once it is allowed, and the address itself where a line is
-/// written.
+/// The arguments of a command, with an `A` for each address: an address with its span when a line
+/// is read, a node's index once the line is allowed, and the address itself when a line is written.
 #[derive(Drop)]
 pub enum Arguments<'a, A> {
     NoArgument,
@@ -30,8 +29,8 @@ pub enum Arguments<'a, A> {
 /// What a line says after its command.
 pub type Read<'a> = Result<Arguments<'a, SpannedAddr>, LineFault>;
 
-// Each form stands in a function of its own, so that no line pays for the frame of another form.
-// The arguments begin at `at`; without a space after the command there are none.
+// Each form has a function of its own, so that no line pays for the stack frame of another form.
+// The arguments begin at `at`; they are None if there is no space after the command.
 
 #[tactic(auto, using(crate::proofs::Cuts::no_argument_some))]
 fn no_argument(arguments: Option<&[u8]>) -> Read<'static>
@@ -44,8 +43,8 @@ fn no_argument(arguments: Option<&[u8]>) -> Read<'static>
     }
 }
 
-// An address has no space, so a line's only argument is looked through for another one only where
-// it is no address.
+// An address has no space, so the only argument is searched for a second word only if it isn't an
+// address.
 #[tactic(auto, using(crate::proofs::Cuts::one_address_more))]
 fn one_address(at: usize, arguments: Option<&[u8]>) -> Read<'static>
     requires { IfSome arguments (λ words. at + length words.now < slice_end) }
@@ -89,7 +88,7 @@ fn two_addresses(at: usize, arguments: Option<&[u8]>) -> Read<'static>
     Ok(Arguments::TwoAddresses(a, b))
 }
 
-// As with an only address, an only number is looked through for another word where it is none.
+// As in `one_address`, the argument is searched for a second word only if it isn't a number.
 #[tactic(auto, using(crate::proofs::Cuts::one_number_more))]
 fn one_number(most: u64, at: usize, arguments: Option<&[u8]>) -> Read<'static>
     requires { IfSome arguments (λ words. at + length words.now < slice_end) }
@@ -110,7 +109,7 @@ fn one_number(most: u64, at: usize, arguments: Option<&[u8]>) -> Read<'static>
     Err(fault)
 }
 
-// `ADDR sn NUM`: what follows ADDR begins the second and third word.
+// `ADDR sn NUM`: `word` is ADDR, and `others` is what follows it and its space.
 #[tactic(auto, using(crate::proofs::Cuts::numbered_address_more), unfolding(mesh_grammar::specs::Forms::numbered_address))]
 fn address_sn(at: usize, word: &[u8], others: &[u8]) -> Read<'static>
     requires { at + length word.now + 1 + length others.now < slice_end }
@@ -152,7 +151,7 @@ fn numbered_address(at: usize, arguments: Option<&[u8]>) -> Read<'static>
     address_sn(at, word, others)
 }
 
-// The text is all that follows the second address.
+// The text is all that follows the second address and its space.
 #[tactic(auto, using(crate::proofs::Cuts::addresses_and_text_of), unfolding(mesh_grammar::specs::Forms::addresses_and_text))]
 fn addresses_and_text(at: usize, arguments: Option<&[u8]>) -> Read<'_>
     requires { IfSome arguments (λ words. at + length words.now < slice_end) }
@@ -200,7 +199,7 @@ fn address_and_number(most: u64, at: usize, arguments: Option<&[u8]>) -> Read<'s
     Ok(Arguments::AddressAndNumber(a, n))
 }
 
-// The text is all that follows the address.
+// The text is all that follows the address and its space.
 #[tactic(auto, using(crate::proofs::Cuts::address_and_text_of), unfolding(mesh_grammar::specs::Forms::address_and_text))]
 fn address_and_text(at: usize, arguments: Option<&[u8]>) -> Read<'_>
     requires { IfSome arguments (λ words. at + length words.now < slice_end) }
@@ -219,8 +218,8 @@ fn address_and_text(at: usize, arguments: Option<&[u8]>) -> Read<'_>
     Ok(Arguments::AddressAndText(a, text))
 }
 
-/// The arguments of a form, the first of which begins at `at`: the bytes after the command and its
-/// space, or none.
+/// The arguments of this form, or the first fault. `arguments` are the bytes after the command and
+/// its space, which begin at `at`, or None if there is no space.
 pub fn arguments_of(form: Form, at: usize, arguments: Option<&[u8]>) -> Read<'_>
     requires { IfSome arguments (λ words. at + length words.now < slice_end) }
     ensures { all_spanned_in result ≡ forms.arguments_of form at (rest_parts 32 arguments.entry) }

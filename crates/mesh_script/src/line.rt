@@ -1,7 +1,7 @@
 //! A line of a schedule.
 use mesh_base::{Addr, Event};
 
-/// A line that is allowed where it stands. A node stands here as its index in the mesh.
+/// A line that is allowed at its place in a schedule. A node is given by its index in the mesh.
 #[derive(Clone, Copy)]
 pub enum Line<'a> {
     /// An empty line or a remark.
@@ -10,11 +10,11 @@ pub enum Line<'a> {
     Node { addr: Addr, first: u32 },
     /// One event.
     Step(Event<'a>),
-    /// Up to so many events, each chosen by what is enabled.
+    /// Up to this many events, each chosen by what is enabled at that time.
     Auto { count: u32 },
     /// The state of a node is shown.
     Show { node: usize },
-    /// Where the valid routes of a node lead to `dest` is shown.
+    /// Where the valid routes for `dest` lead from a node is shown.
     Route { node: usize, dest: usize },
     /// The copies in flight are shown.
     Flight,

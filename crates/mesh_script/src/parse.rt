@@ -1,4 +1,4 @@
-//! Whether a line is allowed where it stands.
+//! Whether a line is allowed at its place in a schedule.
 ghost use Rattle.std.specs.Prelude.{◌≡◌, ◌<◌, IfOk, IfErr, Some, None, Ok};
 ghost use Rattle.mesh_base.specs.Meshes.{index_of};
 ghost use Rattle.mesh_meaning.specs.Events.{event_of};
@@ -16,7 +16,7 @@ use crate::words::SpannedAddr;
 use mesh_base::{Event, MOST_NODES, Mesh};
 use mesh_grammar::{Command, LineFault};
 
-// No line but a `node` line comes before the first node.
+// A line that is neither blank nor a `node` line is refused while the mesh has no node.
 pub(crate) fn after_nodes(mesh: &Mesh) -> Result<(), LineFault>
     ensures { HasNodes mesh.now result }
 {
@@ -35,7 +35,8 @@ fn index(mesh: &Mesh, node: SpannedAddr) -> Result<usize, LineFault>
         .ok_or(LineFault::Unknown(node.span))
 }
 
-/// Arguments with each node by its index. The leftmost address that is no node is the fault.
+/// Arguments with the index of its node for each address. The fault is the leftmost address that no
+/// node has.
 pub fn indexed<'a>(
     mesh: &Mesh,
     arguments: &Arguments<'a, SpannedAddr>,
@@ -74,7 +75,7 @@ pub fn indexed<'a>(
     }
 }
 
-// An event of two nodes that are not the same.
+// An event of two nodes, which must not be the same.
 fn of_pair<'a>(a: usize, b: usize, event: Event<'a>) -> Result<Line<'a>, LineFault>
     ensures { seen_line result ≡ schedule.of_pair a b (event_of event.entry) }
 {
@@ -84,7 +85,7 @@ fn of_pair<'a>(a: usize, b: usize, event: Event<'a>) -> Result<Line<'a>, LineFau
     Ok(Line::Step(event))
 }
 
-// A count of events has 32 bits.
+// A line that chooses events. A count of more than 32 bits is a fault.
 fn auto(count: u64) -> Result<Line<'static>, LineFault>
     ensures { seen_line result ≡ short_count (Ok (schedule.Chooses count)) }
 {
@@ -96,8 +97,8 @@ fn auto(count: u64) -> Result<Line<'static>, LineFault>
     })
 }
 
-/// The line that a command makes of its arguments, with each node by its index. Arguments of
-/// another command are a fault, and so is a count of events past 32 bits.
+/// The line of a command and its arguments, which give each node by its index. Arguments of another
+/// form than the command's are a fault, and so is a count of events past 32 bits.
 #[inline(always)]
 fn make_line<'a>(command: Command, arguments: Arguments<'a, usize>) -> Result<Line<'a>, LineFault>
     ensures { seen_line result
@@ -127,7 +128,7 @@ fn make_line<'a>(command: Command, arguments: Arguments<'a, usize>) -> Result<Li
     }
 }
 
-// A node that isn't there yet, before the run has started.
+// One more node: it must not be in the mesh yet, and the run must not have started.
 fn new_node(
     mesh: &Mesh,
     started: bool,
@@ -151,8 +152,7 @@ fn new_node(
     })
 }
 
-// What a line says, with this mesh. A shape is looked at where it stands: it is too large to be
-// moved for nothing.
+// What a line says in this mesh. The shape is borrowed: it is too large to be moved without need.
 fn line_at<'a>(said: &Option<Shape<'a>>, mesh: &Mesh, started: bool) -> Result<Line<'a>, LineFault>
     ensures { seen_line result
         ≡ short_count (schedule.accepted_shape mesh.now started (said_of said.now)) }
@@ -168,9 +168,9 @@ fn line_at<'a>(said: &Option<Shape<'a>>, mesh: &Mesh, started: bool) -> Result<L
     make_line(shape.command, arguments)
 }
 
-/// What a line comes to with the mesh so far: the first fault of it, or the line. `started` says
-/// whether an earlier line was neither blank nor a `node` line. An allowed line is written back as
-/// it stands, but that a line may name a node without its number, which is 1 then.
+/// Reads a line in the mesh so far: the line, or its first fault. `started` says whether an earlier
+/// line was neither blank nor a `node` line. An allowed line that isn't blank is the text in which
+/// it is written back, except that it may give a new node without its number, which is 1 then.
 pub fn parse_line<'a>(bytes: &'a [u8], mesh: &Mesh, started: bool) -> Result<Line<'a>, LineFault>
     ensures value { seen_line result ≡ schedule.line_of mesh.now started bytes.now }
     ensures allowed { IfOk result (IsAllowed mesh.now started) }

@@ -20,10 +20,10 @@ use mesh_base::{
     Addr, Event, LINE_CAPACITY, LONGEST_DATUM, LineBuf, Mesh, push_number, push_text, write_dotted,
 };
 
-/// The most bytes of an address as it is written: four numbers of three digits, and three dots.
+/// The most bytes of a written address: four numbers of three digits, and three dots.
 pub const ADDRESS_WIDTH: usize = 4 * 3 + 3;
 
-/// The most bytes of a number of 64 bits as it is written.
+/// The most bytes of a written number of 64 bits.
 pub const NUMBER_WIDTH: usize = 20;
 
 /// The most bytes of an address as an argument, with the space before it.
@@ -32,10 +32,11 @@ pub const ADDRESS_ARGUMENT: usize = 1 + ADDRESS_WIDTH;
 /// The most bytes of a number as an argument, with the space before it.
 pub const NUMBER_ARGUMENT: usize = 1 + NUMBER_WIDTH;
 
-/// The longest line that is written back: of a word of four letters, two addresses, and a text.
+/// The most bytes of a line that is written back: a word of four letters, two addresses, and a
+/// text.
 pub const LONGEST_WRITTEN: usize = 4 + 2 * ADDRESS_ARGUMENT + 1 + LONGEST_DATUM;
 
-// An argument, after the space before it.
+// These append a space and an argument.
 
 fn push_address(out: &mut LineBuf, a: Addr)
     requires room { length out.old + ADDRESS_ARGUMENT ≤ LINE_CAPACITY }
@@ -97,7 +98,7 @@ pub fn push_written(out: &mut LineBuf, word: &[u8], arguments: &Arguments<'_, Ad
     }
 }
 
-// A word, and the address of a node after a space.
+// Appends a word, and after a space the address of node i.
 #[inline(always)]
 #[tactic(auto, using(std::proofs::lemmas::List::append_assoc), unfolding(mesh_grammar::specs::Written::command_text))]
 fn push_one<const N: usize>(out: &mut LineBuf, word: &[u8; N], mesh: &Mesh, i: usize)
@@ -112,7 +113,7 @@ fn push_one<const N: usize>(out: &mut LineBuf, word: &[u8; N], mesh: &Mesh, i: u
     mesh.push_name(i, out);
 }
 
-// The same of two nodes.
+// Appends a word, and the addresses of nodes i and j, each after a space.
 #[inline(always)]
 #[tactic(auto, using(std::proofs::lemmas::List::append_assoc), unfolding(mesh_grammar::specs::Written::command_text))]
 fn push_two<const N: usize>(out: &mut LineBuf, word: &[u8; N], mesh: &Mesh, i: usize, j: usize)
@@ -128,7 +129,7 @@ fn push_two<const N: usize>(out: &mut LineBuf, word: &[u8; N], mesh: &Mesh, i: u
     mesh.push_name(j, out);
 }
 
-// A word, and a number after a space.
+// Appends a word, and after a space a number.
 #[inline(always)]
 #[tactic(auto, using(std::proofs::lemmas::List::append_assoc), unfolding(mesh_grammar::specs::Written::command_text))]
 fn push_numbered<const N: usize>(out: &mut LineBuf, word: &[u8; N], n: u64)
@@ -167,7 +168,7 @@ pub fn push_event(out: &mut LineBuf, mesh: &Mesh, event: &Event<'_>)
     }
 }
 
-/// Appends a line in canonical form, without LF. A blank line is written as none.
+/// Appends a line in canonical form, without LF. For a blank line it appends nothing.
 #[tactic(auto, using(crate::proofs::Allowed::append_none), unfolding(mesh_text::specs::Lines::words_of, mesh_text::specs::Lines::event_words, mesh_grammar::specs::Written::command_text))]
 #[inline(always)]
 pub fn push_line(out: &mut LineBuf, mesh: &Mesh, line: &Line<'_>)
@@ -192,8 +193,8 @@ pub fn push_line(out: &mut LineBuf, mesh: &Mesh, line: &Line<'_>)
     }
 }
 
-/// The line in canonical form, without LF, takes the place of what `out` held. A blank line is
-/// written as none.
+/// Replaces what `out` held by the line in canonical form, without LF. A blank line leaves `out`
+/// empty.
 #[tactic(auto, using(crate::proofs::Allowed::again))]
 pub fn print_line(line: &Line<'_>, mesh: &Mesh, out: &mut LineBuf)
     requires { IsPrintable mesh.now line.now }

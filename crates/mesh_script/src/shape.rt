@@ -1,4 +1,4 @@
-//! What a line says by itself, and the faults of a line by itself.
+//! What a line says by itself, and the faults that it has by itself.
 ghost use Rattle.std.specs.Prelude.{◌≡◌, IfSome, IfNone, Some, None};
 ghost use Rattle.mesh_grammar.specs.Commands as commands;
 ghost use Rattle.mesh_grammar.specs.Scripts.{row_in};
@@ -54,7 +54,7 @@ fn row_of(word: &[u8]) -> Option<Row>
     }
 }
 
-/// A line by itself, or its first fault. A blank line says nothing.
+/// What a line says by itself, or its first fault. A blank line says nothing.
 #[tactic(auto, unfolding(mesh_grammar::specs::Scripts::shape_by))]
 pub fn shape_of(line: &[u8]) -> Result<Option<Shape<'_>>, LineFault>
     ensures { seen_shape result ≡ commands.shape_of line.now }

@@ -10,7 +10,7 @@ ghost use Rattle.mesh_script.specs.Arguments.{spanned_of};
 use mesh_base::{Addr, LONGEST_DATUM, number_up_to};
 use mesh_grammar::{LineFault, Span};
 
-/// An address that a line names, and where it stands in the line.
+/// An address that a line names, and where in the line it is.
 #[derive(Clone, Copy)]
 pub struct SpannedAddr {
     pub addr: Addr,
@@ -27,8 +27,8 @@ pub fn is_blank(line: &[u8]) -> bool
     }
 }
 
-/// Whether a word is this one. A `match` on words would be a test of each byte on its own, and its
-/// proof a case for each.
+/// Whether a word is this one. A `match` on words would test each byte on its own, and its proof
+/// would need a case for each.
 #[inline(always)]
 #[tactic(auto, using(crate::proofs::SameBytes::other_length, crate::proofs::SameBytes::other_byte, crate::proofs::SameBytes::same_bytes))]
 pub fn is_word<const N: usize>(word: &[u8], this: &[u8; N]) -> bool
@@ -60,7 +60,7 @@ fn is_text(bytes: &[u8]) -> bool
     are_printable(bytes)
 }
 
-/// The bytes of a word that begins at `at`.
+/// The span of a word that begins at `at`.
 pub fn span_at(at: usize, word: &[u8]) -> Span
     requires { at + length word.now < slice_end }
     ensures { result ≡ words.span_at at word.now }
@@ -71,7 +71,7 @@ pub fn span_at(at: usize, word: &[u8]) -> Span
     }
 }
 
-/// Where the word after this one begins.
+/// Where the word after this one begins: there is one space between them.
 pub fn next_at(at: usize, word: &[u8]) -> usize
     requires { at + length word.now < slice_end }
     ensures { result ≡ words.next_at at word.now }
@@ -112,7 +112,7 @@ pub fn number(most: u64, at: usize, word: &[u8]) -> Result<u64, LineFault>
     }
 }
 
-/// What stands from here to the line's end, as a datum's text.
+/// The bytes from `at` to the line's end, as a datum's text.
 pub fn text(at: usize, bytes: &[u8]) -> Result<&[u8], LineFault>
     requires { at + length bytes.now < slice_end }
     ensures value { IfOk result (λ text. words.text_of bytes.now ≡ Some text.now) }

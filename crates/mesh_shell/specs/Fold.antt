@@ -4,19 +4,19 @@ use Rattle.std.specs.Prelude.{ℕ, Bool, true, false, List, [], ◌∷◌, ◌++
 use Rattle.mesh_io.specs.declared.limits.Limits.{Limits}
 use Rattle.mesh_shell.specs.Pieces.{Piece, pieces_within}
 
--- what a line comes to: its text, and the run goes on from the next state; or its text as far as
--- it was done, and then the last text, with the verdict of the run
+-- the outcome of a line: its text, and the run goes on from the next state; or its text as far as
+-- the line was done, and then the last text, with the verdict of the run
 pub data Outcome (M V : Type 0) : Type 0 where
   On : (text : List ℕ) → M → Outcome M V
   Ended : (text last : List ℕ) → V → Outcome M V
 
--- what the end of the input comes to: the last text, the verdict, and the state after it
+-- the outcome of the end of the input: the last text, the verdict, and the state after it
 pub record Ending (M V : Type 0) : Type 0 where
   pub text : List ℕ
   pub verdict : V
   pub after : M
 
--- what a script writes before the first line, and what it makes of each line, and of the end, in a
+-- what a script writes before the first line, and the outcome of each line, and of the end, in a
 -- state
 pub record Fold (M V : Type 0) : Type 0 where
   pub head : M → List ℕ
@@ -24,8 +24,8 @@ pub record Fold (M V : Type 0) : Type 0 where
   pub ending : M → Ending M V
 
 -- the text of a run: the head and the text of its lines as far as they were done, and what the end,
--- or the line that has ended it, wrote last; its verdict; the state after it, which is the one
--- before the line that has ended it; and whether the input was done to its end
+-- or the line that has ended it, wrote last; its verdict; the state after it, or, if a line has
+-- ended it, the state before that line; and whether the input was done to its end
 pub record RunText (M V : Type 0) : Type 0 where
   pub lines : List ℕ
   pub last : List ℕ
@@ -56,11 +56,11 @@ ended_run m text last v = record {
   complete = false;
 }
 
--- lines before others
+-- a run with this text before that of its lines
 abbrev pub lines_before : {M V : Type 0} → List ℕ → RunText M V → RunText M V
 lines_before text w = record w { lines = text ++ w.lines }
 
--- what a line came to, and then the rest of the run from the next state on
+-- the outcome of a line, and then the rest of the run from the next state on
 abbrev pub goes_on : {M V : Type 0} → M → Outcome M V → (M → RunText M V) → RunText M V
 goes_on m (On text n) others = lines_before text (others n)
 goes_on m (Ended text last v) others = ended_run m text last v

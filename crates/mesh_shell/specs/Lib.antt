@@ -1,6 +1,6 @@
--- Pieces: the lines of an input. Fold: what a script makes of them. Outputs: what was told of a
+-- Pieces: the lines of an input. Fold: what a script makes of them. Outputs: what is known of a
 -- run. Causes: when a fault is answered. Scripts: the sizes of lines, and what the calls of a
--- script answer. Runs: what was told of a run of lines, whatever was done with them. Scripted: a
+-- script answer. Runs: what is known of a run of lines, whatever is done with them. Scripted: a
 -- script as a runner of lines. ScriptedLaws: its laws. Laws: what holds of the lines.
 pub mod Pieces
 pub mod Fold

@@ -1,6 +1,6 @@
 -- Part of what the headline says.
--- What was told of a run: what the sink held before, and what it holds now. Where a sink doesn't
--- tell what it holds, the verdict alone is claimed.
+-- What is known of a run: what the sink held before it, and what the sink holds now. If it isn't
+-- known what a sink holds, only the verdict is claimed.
 use Rattle.std.specs.Prelude.{ℕ, ◌≡◌, ◌⊎◌, true, List, [], ◌∷◌, ◌++◌, Option, Some, None, Result, Ok, Err}
 use Rattle.std.specs.Io.KnownBytes.{Appends, Consumes}
 use Rattle.mesh_io.specs.Puts.{AppendsPrefix}
@@ -19,7 +19,7 @@ pub record IsLineDone {M V : Type 0} (k : Outcome M V) (n : M) (before now : Opt
   pub is : k ≡ On text n
   pub grown : Appends before now text
 
--- it has ended the run, and its text and the last are written
+-- it has ended the run, and its text and the last text are written
 pub record IsLineLast {M V : Type 0} (k : Outcome M V) (v : V) (before now : Option (List ℕ))
     : Type 0 where
   pub text : List ℕ
@@ -32,7 +32,7 @@ abbrev pub text_in : {M V : Type 0} → Outcome M V → List ℕ
 text_in (On text n) = text
 text_in (Ended text last v) = text ++ last
 
--- either, or a prefix of its text was written
+-- one of these two, or a fault, and a prefix of its text was written
 abbrev pub IsLineRun : {M V : Type 0} → Outcome M V → M → Option (List ℕ) → Option (List ℕ)
     → Result (Option V) Fault → Type 0
 IsLineRun k n before now (Ok None) = IsLineDone k n before now
@@ -74,7 +74,7 @@ EndsWithLf bytes = (bytes ≡ []) ⊎ ((front : List ℕ) × (bytes ≡ front ++
 
 -- a read failed after some lines, each with its LF, and bytes without one were taken. The lines
 -- were all done and none has ended the run, and their text was written, which is a prefix of what
--- the whole input comes to. `text` says what an input comes to
+-- the whole input comes to. `text` gives the run of an input
 pub record IsCutShort {M V : Type 0} (text : List ℕ → RunText M V) (bytes : List ℕ)
     (left before now : Option (List ℕ)) : Type 0 where
   pub lines : List ℕ
@@ -86,9 +86,9 @@ pub record IsCutShort {M V : Type 0} (text : List ℕ → RunText M V) (bytes : 
   pub grown : Appends before now (text lines).lines
   pub prefix : AppendsPrefix before now (whole (text bytes))
 
--- a run of these bytes has answered, where the source has this left: the whole text was written and
--- the verdict answered; or a read failed, and the text of the lines that were read whole was; or a
--- write failed, or memory was asked for and not found, and a prefix of the text was
+-- the answer of a run of these bytes, after which the source has this left: the verdict, and the
+-- whole text was written; or a read failed, and the text of the lines that were read whole was
+-- written; or a write failed, or memory ran out, and a prefix of the text was written
 abbrev pub IsOutputOf : {M V : Type 0} → (List ℕ → RunText M V) → List ℕ → Option (List ℕ)
     → Option (List ℕ) → Option (List ℕ) → Result V Fault → Type 0
 IsOutputOf text bytes left before now (Ok v) =
@@ -99,7 +99,7 @@ IsOutputOf text bytes left before now (Err WriteFault) =
 IsOutputOf text bytes left before now (Err NoMemory) =
     AppendsPrefix before now (whole (text bytes))
 
--- the same of a script's run from a state on
+-- the answer of a script's run from a state on
 abbrev pub IsOutputFrom : {M V : Type 0} → Fold M V → Limits → M → List ℕ → Option (List ℕ)
     → Option (List ℕ) → Option (List ℕ) → Result V Fault → Type 0
 IsOutputFrom fold most m bytes left before now result =

@@ -1,5 +1,5 @@
 -- Part of what the headline says.
--- The lines of an input: its parts between LF, within the limits of a line and of the input.
+-- The lines of an input: its parts between LFs, within the limits of a line and of the input.
 use Rattle.std.specs.Prelude.{ℕ, Bool, List, [], ◌∷◌, length, nat_lt, nat_le, ◌&&◌, if◌then◌else◌, take}
 use Rattle.mesh_base.specs.Parts.{parts}
 use Rattle.mesh_io.specs.declared.limits.Limits.{Limits}
@@ -13,8 +13,8 @@ pub data Piece : Type 0 where
 abbrev pub piece_of : Limits → List ℕ → Piece
 piece_of most line = if nat_le (length line) most.line then Whole line else Long
 
--- the last part is a line where it isn't empty; where the input has more bytes than its limit, the
--- last part goes past it, unless it is too long before that
+-- the last part is a line unless it is empty; if the input has more bytes than its limit, the last
+-- part goes past it, unless it is too long before that
 abbrev pub last_piece : Limits → Bool → List ℕ → List Piece
 last_piece most more [] = if more then Beyond ∷ [] else []
 last_piece most more (b ∷ bs) =

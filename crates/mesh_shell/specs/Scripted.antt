@@ -1,4 +1,4 @@
--- A script as a runner of lines: what it makes of each, and what its buffer holds then.
+-- A script as a runner of lines: the outcome of each line, and what its buffer holds then.
 use Rattle.std.specs.Prelude.{ℕ, ◌≡◌, List, ◌++◌, Option, Result, Err, IfOk, OnOk, IsErrOf}
 use Rattle.std.specs.Io.KnownBytes.{Appends, Keeps}
 use Rattle.mesh_io.specs.Buffering.{inner_of, held_by}
@@ -13,14 +13,15 @@ use Rattle.mesh_shell.specs.declared.fault.Fault.TheVariants.{ReadFault, WriteFa
 use Rattle.mesh_shell.specs.declared.script.Script as scripts
 use Rattle.mesh_shell.specs.declared.scripted.Scripted.{Scripted}
 
--- what was told to its buffer, and how often the sink behind it has failed
+-- what its buffer's sink holds and then what is gathered, if that is known; and how often that sink
+-- has failed
 abbrev pub told_by : {S O : Type 0} → sinks.Ghosts O → Scripted S O → Option (List ℕ)
 told_by sink s = held_by sink.held s.out.now
 
 abbrev pub faults_by : {S O : Type 0} → sinks.Ghosts O → Scripted S O → ℕ
 faults_by sink s = sink.faults (inner_of s.out.now)
 
--- the script and the buffer are those that they were
+-- the references to the script and the buffer are those that they were
 pub record AreSame {S O : Type 0} (old new : Scripted S O) : Type 0 where
   pub script : new.script.ghost_name ≡ old.script.ghost_name
   pub out : new.out.ghost_name ≡ old.out.ghost_name
@@ -47,7 +48,7 @@ pub record HasStopped {S V O : Type 0} (script : scripts.Ghosts S V) (sink : sin
   pub write : HasFaultCause WriteFault (faults_by sink old) (faults_by sink new) answer
   pub read : ¬ IsErrOf answer ReadFault
 
--- the end of the input has
+-- the end of the input has ended the run
 pub record HasFinished {S V O : Type 0} (script : scripts.Ghosts S V) (sink : sinks.Ghosts O)
     (old new : Scripted S O) (answer : Result V Fault) : Type 0 where
   pub same : AreSame old new
@@ -66,7 +67,7 @@ pub record HasBroken {S V O : Type 0} (sink : sinks.Ghosts O) (old new : Scripte
   pub kept : Keeps (told_by sink old) (told_by sink new)
   pub write : HasFaultCause WriteFault (faults_by sink old) (faults_by sink new) answer
 
--- a read has
+-- a read has failed
 pub record IsCut {S V O : Type 0} (old new : Scripted S O) (answer : Result V Fault)
     : Type 0 where
   pub same : new ≡ old

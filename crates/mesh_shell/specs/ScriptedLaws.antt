@@ -33,7 +33,7 @@ pub before_both : {M V : Type 0} (a b : List ℕ) (w : RunText M V)
     → lines_before a (lines_before b w) ≡ lines_before (a ++ b) w
 before_both a b w = ap (λ l. record w { lines = l }) (sym (append_assoc a b w.lines))
 
--- no lines lead nowhere else
+-- without lines a script leads to itself
 pub stays_there : {S V O : Type 0} (script : scripts.Ghosts S V) (sink : sinks.Ghosts O)
     → Stays script → (a : Scripted S O) → HasLed script sink a [] a
 stays_there script sink stays a = record {
@@ -45,7 +45,7 @@ stays_there script sink stays a = record {
   write = refl;
 }
 
--- lines and then others lead on
+-- if lines lead from a to b, and others from b to c, then all of them lead from a to c
 pub joins_both : {S V O : Type 0} (script : scripts.Ghosts S V) (sink : sinks.Ghosts O)
     → Joins script → (a b c : Scripted S O) (lines others : List Piece)
     → HasLed script sink a lines b → HasLed script sink b others c
@@ -67,7 +67,8 @@ joins_both script sink joins a b c lines others p q = record {
   write = q.write ∙ p.write;
 }
 
--- what lines leave of the room: fewer bytes have room where more have
+-- after lines there is as much room as they leave: where there is room for more bytes there is room
+-- for fewer
 pub leaves_room : {S V O : Type 0} (script : scripts.Ghosts S V) (sink : sinks.Ghosts O)
     → Stays script → Leaves script → (a b : Scripted S O) (lines : List Piece) (all few : ℕ)
     → script.has_room a.script.now all → HasLed script sink a lines b

@@ -5,11 +5,12 @@ use Rattle.mesh_shell.specs.declared.fault.Fault.{Fault}
 use Rattle.mesh_shell.specs.declared.limit.Limit.{Limit}
 use Rattle.mesh_shell.specs.declared.limit.Limit.TheVariants.{Line, Input}
 
--- how many bytes a line takes of an input at least: the last may have no LF
+-- the least number of bytes that a line takes in an input: the last may have no LF, and isn't empty
+-- then
 abbrev pub size_of_line : List ℕ → ℕ
 size_of_line line = max 1 (length line)
 
--- the same of a line as it is cut, and of lines: one byte of a line that goes past a limit counts
+-- the least number of bytes that a piece takes: one if it is a line that goes past a limit
 abbrev pub size_of_piece : Piece → ℕ
 size_of_piece (Whole line) = size_of_line line
 size_of_piece Long = 1
@@ -23,10 +24,10 @@ abbrev pub piece_past : Limit → Piece
 piece_past Line = Long
 piece_past Input = Beyond
 
--- where a line hasn't ended the run
+-- P holds if a line was done and hasn't ended the run
 abbrev pub GoesOn : {V : Type 0} → Result (Option V) Fault → Type 0 → Type 0
 GoesOn result P = IfOk result (λ ended. IfNone ended P)
 
--- the verdict of a run that a line has ended is none of the end
+-- the verdict of a run that a line has ended isn't one of the end
 abbrev pub EndsEarly : {V : Type 0} → (V → Type 0) → Result (Option V) Fault → Type 0
 EndsEarly is_final result = IfOk result (λ ended. IfSome ended (λ v. ¬ (is_final v)))

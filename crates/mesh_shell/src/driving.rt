@@ -15,7 +15,7 @@ use mesh_io::{Buffered, Cutter, Limits, Loan, ReservedBuffer, Sink, Source, Thro
 use std::alloc::Global;
 use std::marker::Brand;
 
-// Does lines into a buffer, and hands on what is gathered, unless a write failed.
+// Does lines, whose text goes to a buffer, and hands on what is gathered, unless a write failed.
 fn do_gathered<S: Script, R: LineReader, O: Sink>(
     script: &mut S,
     lines: &mut R,
@@ -50,7 +50,7 @@ fn do_gathered<S: Script, R: LineReader, O: Sink>(
     }
 }
 
-// Does lines through a buffer before the sink, which comes back.
+// Does lines with a buffer before the sink. The reference to the sink is returned.
 fn do_through<'s, S: Script, R: LineReader, O: Sink, L: Loan>(
     room: ReservedBuffer,
     script: &mut S,
@@ -84,7 +84,7 @@ fn do_through<'s, S: Script, R: LineReader, O: Sink, L: Loan>(
     buffer.give_back()
 }
 
-// Does lines from their reader to a sink. The memory of the buffer is taken first.
+// Does lines from their reader to a sink. The buffer's memory is taken first.
 fn do_buffered<S: Script, R: LineReader, O: Sink>(
     alloc: Global,
     script: &mut S,
@@ -112,14 +112,14 @@ fn do_buffered<S: Script, R: LineReader, O: Sink>(
         return Err(Fault::NoMemory);
     };
     let mut answer = Err(Fault::NoMemory);
-    // It says that what comes back is `out`, as the buffer has left it.
+    // The binding makes it known that `out` is as the buffer has left it.
     let _out = do_through::<S, R, O, Brand>(room, script, lines, out, &mut answer);
     answer
 }
 
 /// Runs a script over the lines of a source, up to its end or the first line that ends the run, and
 /// writes its text to the sink. A line has at most `most.line` bytes, and the input `most.input`;
-/// `CAPACITY` is what the longest line and one read need.
+/// `CAPACITY` bytes have to hold the longest line and one read.
 ///
 /// What is written is gathered in a buffer of 65536 bytes, whose memory is taken first. It is
 /// handed on when it is full, before each read of the source, and at the end, unless a write has
@@ -136,29 +136,30 @@ pub fn run<S: Script, I: Source, O: Sink, const CAPACITY: usize>(
     requires short { most.line ≤ S.longest }
     requires room { S.has_room script.old (most.input + 1) }
 
-    // What is written is the text of the input, and the answer its verdict. After a failed write,
-    // or want of memory, it is a prefix of that text; after a failed read it is the text of the
-    // lines that were read whole.
+    // What is written is the text of the input, and the answer is its verdict. If a write failed,
+    // or memory ran out, what is written is a prefix of that text; if a read failed, it is the text
+    // of the lines that were read whole.
     ensures told { IfSome (I.left input.old) (λ bytes.
         IsOutputFrom S.fold most script.old bytes (I.left input.new)
         (O.held out.old) (O.held out.new) result) }
 
-    // The verdict of the end is answered only where the input was read to its end, and the script
-    // is then in the state to which the input leads.
+    // A final verdict is answered only if the input was read to its end, and the script is then in
+    // the state to which the input leads.
     ensures end { IfOk result (λ v. S.is_final v → IsAtEnd (I.left input.new)) }
     ensures after { IfOk result (λ v. S.is_final v → IfSome (I.left input.old)
         (λ bytes. script.new ≡ (text_on S.fold most script.old bytes).after)) }
     ensures leads { IfOk result (λ v. S.is_final v → S.leads script.old most.input script.new) }
     ensures sound { IfOk result (λ v. S.is_final v → S.is_sound script.new) }
 
-    // A fault is answered only where the source or the sink has failed in this call, and no other
-    // answer is given where one of them has.
+    // A read fault is answered only if the source has failed in this call, and a write fault only
+    // if the sink has. If one of them has failed, one of these two faults is answered; if the sink
+    // has, it is the write fault.
     ensures read { HasSourceCause (I.faults input.old) (I.faults input.new) result }
     ensures write { HasFaultCause Fault.WriteFault (O.faults out.old) (O.faults out.new) result }
 {
     let mut lines: Cutter<'_, I, CAPACITY> = Cutter::new(input, most);
     let result = do_buffered(alloc, script, &mut lines, out);
-    // It says that `input` is the source as the lines have left it.
+    // The binding makes it known that `input` is the source as the lines have left it.
     let _input = lines.give_back();
     result
 }

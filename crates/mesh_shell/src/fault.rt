@@ -1,8 +1,8 @@
-//! Why a run isn't done whole.
+//! Why a run wasn't completed.
 use mesh_io::PutFault;
 use thiserror::Error;
 
-/// Why a run isn't done whole.
+/// Why a run wasn't completed.
 #[derive(Clone, Copy, Debug, PartialEq, Eq, Error)]
 pub enum Fault {
     /// The source failed.
@@ -11,7 +11,7 @@ pub enum Fault {
     /// The sink failed.
     #[error("a write failed")]
     WriteFault,
-    /// Memory was asked for and not found.
+    /// Memory ran out.
     #[error("no memory")]
     NoMemory,
 }

@@ -4,13 +4,13 @@ ghost use Rattle.mesh_io.specs.declared.limits.Limits.{Limits};
 ghost use Rattle.mesh_shell.specs.Pieces.{pieces_within};
 ghost use Rattle.mesh_shell.specs.Laws.{LinesAreTheText};
 
-/// An input of no bytes has no line, whatever the limits.
+/// An empty input has no line, whatever the limits.
 pub fn an_empty_text_has_no_line()
     ensures { (most : Limits) → pieces_within most [] ≡ [] }
 {}
 
-/// Where no limit is passed the lines of an input, each with its LF, are the input, but for a LF
-/// that its last line may lack.
+/// If no limit is passed, the lines of an input, each with an LF after it, are the input, except
+/// that its last line may lack the LF.
 pub fn lines_are_the_text()
     ensures { LinesAreTheText }
 {}

@@ -1,6 +1,6 @@
 //! The shell of all programs that read lines: a script says what each line of an input does, and
-//! one loop runs it from a source to a sink. Of a printed text, or a schedule, it states what is
-//! written and answered, whatever the script.
+//! one loop runs it from a source to a sink. Its contracts say, for schedules and for printed
+//! texts, what is written and answered, whatever the script.
 #![tactic(auto)]
 
 mod driving;

@@ -8,8 +8,8 @@ use crate::reader::LineReader;
 use crate::runner::Runner;
 use mesh_io::LineError;
 
-// Hands on what is gathered, unless the next answer needs no read: nothing is awaited then, and
-// nothing changes.
+// Hands on what is gathered, if the next answer needs a read. If it doesn't, nothing is awaited,
+// and nothing changes.
 #[inline]
 fn hand_on<R: Runner, L: LineReader>(runner: &mut R, lines: &L) -> Option<R::Answer>
     ensures goes { IfNone result (R.leads runner.old [] runner.new) }
@@ -26,9 +26,9 @@ fn hand_on<R: Runner, L: LineReader>(runner: &mut R, lines: &L) -> Option<R::Ans
     runner.wait()
 }
 
-/// Does the lines of a source from its front, up to its end or the first that ends the run. What is
-/// gathered is handed on before each read, so that a line's text is there before the next is
-/// awaited.
+/// Does the lines of a source from the first on, up to the end of the input or the first line that
+/// ends the run. What is gathered is handed on before each read, so that a line's text is out
+/// before the next line is awaited.
 pub fn run_lines<R: Runner, L: LineReader>(runner: &mut R, lines: &mut L) -> R::Answer
     requires short { (L.limits lines.old).line ≤ R.longest }
     requires room { R.has_room runner.old ((L.limits lines.old).input + 1) }

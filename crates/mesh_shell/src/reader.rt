@@ -1,4 +1,4 @@
-//! What gives the lines of an input.
+//! A reader of an input's lines.
 ghost use Rattle.std.specs.Prelude.{◌≡◌, ◌≤◌, ◌<◌, ℕ, Bool, List, Option, Ok, true, false, length, IfSome, IsErrOf};
 ghost use Rattle.std.specs.Io.KnownBytes.{IsAtEnd, prepend_known};
 ghost use Rattle.mesh_io.specs.Cause.{HasReadCause};
@@ -10,13 +10,13 @@ use mesh_io::{Cutter, LineError, Source};
 
 /// A source that is cut into lines, whatever room it has for them.
 pub trait LineReader {
-    /// Which reference to its source it holds.
+    /// The ghost name of its reference to its source.
     ghost name: { Self → ℕ };
 
     /// The limits of its lines.
     ghost limits: { Self → Limits };
 
-    /// The bytes that its source has still to come, where it tells them.
+    /// The bytes still to come from its source, if they are known.
     ghost left: { Self → Option (List ℕ) };
 
     /// How often its source has failed.
@@ -28,7 +28,7 @@ pub trait LineReader {
     /// The line that was found last.
     ghost found: { Self → List ℕ };
 
-    /// How many bytes were given, each LF among them.
+    /// How many bytes were given, each LF included.
     ghost given: { Self → ℕ };
 
     /// The source has answered that it has ended.
@@ -38,12 +38,12 @@ pub trait LineReader {
     fn line(&self) -> &[u8]
         ensures { result.now ≡ found self.now };
 
-    /// The next answer needs no read.
+    /// Whether the next answer needs no read.
     fn is_decided(&self) -> bool
         ensures { result ≡ decides (limits self.now) (given self.now)
             (ended self.now) (pending self.now) };
 
-    /// Finds the next line: false only where the input has ended.
+    /// Finds the next line: false only if the input has ended.
     fn advance(&mut self) -> Result<bool, LineError>
         ensures same { name self.new ≡ name self.old }
         ensures most { limits self.new ≡ limits self.old }

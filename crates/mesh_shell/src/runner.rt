@@ -1,37 +1,39 @@
-//! What is done with the lines of an input, whatever is written and to where.
+//! What is done with the lines of an input, independently of what is written and where.
 ghost use Rattle.std.specs.Prelude.{◌+◌, ◌≤◌, ℕ, List, [], ◌∷◌, ◌++◌, length, IfNone, IfSome};
 ghost use Rattle.mesh_shell.specs.Pieces.{Piece, Whole};
 ghost use Rattle.mesh_shell.specs.Scripts.{size_of_line, size_of_pieces, piece_past};
 
 use crate::limit::Limit;
 
-/// What is done with the lines of an input, one after another, whatever is written and to where.
+/// What is done with the lines of an input, one after another, independently of what is written and
+/// where.
 pub trait Runner {
     /// What a run answers.
     type Answer: Copy;
 
-    /// These lines, each done, lead from the one state to the other, and the run goes on.
+    /// These lines were all done, which led from the first state to the second, and the run goes
+    /// on.
     ghost leads: { Self → List Piece → Self → Type 0 };
 
     /// The run has ended at this line.
     ghost stops: { Self → Piece → Self → Self.Answer → Type 0 };
 
-    /// The run has ended where the input ends.
+    /// The run has ended at the end of the input.
     ghost ends: { Self → Self → Self.Answer → Type 0 };
 
     /// The run has ended before a read, with no line to do.
     ghost breaks: { Self → Self → Self.Answer → Type 0 };
 
-    /// The run has ended where a read failed.
+    /// The run has ended because a read failed.
     ghost cuts: { Self → Self → Self.Answer → Type 0 };
 
-    /// Nothing is gathered that is to be handed on before a read.
+    /// All that is to be handed on before a read has been handed on.
     ghost has_handed_on: { Self → Type 0 };
 
-    /// Lines of so many bytes, each LF among them, can be done from this state on.
+    /// Lines of this many bytes, counted as `size_of_line` does, can be done from this state on.
     ghost has_room: { Self → ℕ → Type 0 };
 
-    /// How many bytes the longest line has that it does.
+    /// The length in bytes of the longest line that it can do.
     ghost longest: { ℕ };
 
     /// Hands on what is gathered, before a read. An answer ends the run.
@@ -53,22 +55,22 @@ pub trait Runner {
         requires { has_room self.old 1 }
         ensures { stops self.old (piece_past limit) self.new result };
 
-    /// Ends the run where the input ends.
+    /// Ends the run at the end of the input.
     fn end(&mut self) -> Self::Answer
         ensures { ends self.old self.new result };
 
-    /// Ends the run where a read failed.
+    /// Ends the run because a read failed.
     fn cut(&mut self) -> Self::Answer
         ensures { cuts self.old self.new result };
 
-    /// No lines lead nowhere else.
+    /// Without lines a state leads to itself.
     ghost stays: { (a : Self) → leads a [] a };
 
-    /// Lines and then others lead on.
+    /// If lines lead from a to b, and others from b to c, then all of them lead from a to c.
     ghost joins: { (a b c : Self) (lines others : List Piece)
         → leads a lines b → leads b others c → leads a (lines ++ others) c };
 
-    /// What lines leave of the room.
+    /// After lines there is as much room as they leave.
     ghost leaves: { (a b : Self) (lines : List Piece) (all few : ℕ) → has_room a all
         → leads a lines b → size_of_pieces lines + few ≤ all → has_room b few };
 }

@@ -12,28 +12,29 @@ use mesh_io::Sink;
 
 /// What a program does with the lines of its input, one after another, and at its end.
 pub trait Script {
-    /// What a run answers where nothing fails.
+    /// What a run answers if nothing fails.
     type Verdict: Copy;
 
-    /// What is written first, and what each line comes to, and the end.
+    /// What is written first, and the outcome of each line and of the end.
     ghost fold: { Fold Self Self.Verdict };
 
-    /// Lines of so many bytes, each LF among them, can lead from the one run state to the other.
+    /// Lines of at most this many bytes, counted as `size_of_line` does, can lead from the first
+    /// state to the second.
     ghost leads: { Self → ℕ → Self → Type 0 };
 
-    /// Lines of so many bytes can be done from this state on.
+    /// Lines of this many bytes, counted in the same way, can be done from this state on.
     ghost has_room: { Self → ℕ → Type 0 };
 
-    /// How many bytes the longest line has that it does.
+    /// The length in bytes of the longest line that it can do.
     ghost longest: { ℕ };
 
-    /// What holds of the state to which an input has led that was done to its end.
+    /// What holds of the state after an input that was done to its end.
     ghost is_sound: { Self → Type 0 };
 
-    /// The verdict is one that only the end of the input brings.
+    /// Only the end of the input gives this verdict.
     ghost is_final: { Self.Verdict → Type 0 };
 
-    /// Writes what stands before the text of the first line.
+    /// Writes what comes before the text of the first line.
     fn begin<O: Sink>(&mut self, out: &mut O) -> Result<(), Fault>
         ensures comes { IsHeadRun (fold.head self.old) self.old self.new
             (O.held out.old) (O.held out.new) result }
@@ -63,7 +64,7 @@ pub trait Script {
             (O.faults out.old) (O.faults out.new) result }
         ensures read { ¬ IsErrOf result Fault.ReadFault };
 
-    /// Ends the run where the input ends, and writes the last text.
+    /// Ends the run at the end of the input, and writes the last text.
     fn end<O: Sink>(&mut self, out: &mut O) -> Result<Self::Verdict, Fault>
         ensures comes { IsEndRun (fold.ending self.old) self.new
             (O.held out.old) (O.held out.new) result }
@@ -73,12 +74,13 @@ pub trait Script {
             (O.faults out.old) (O.faults out.new) result }
         ensures read { ¬ IsErrOf result Fault.ReadFault };
 
-    /// No lines lead nowhere else.
+    /// Without lines a state leads to itself, whatever the number of bytes.
     ghost stays: { (m : Self) (n : ℕ) → leads m n m };
 
-    /// Lines and then others lead on.
+    /// If lines of m bytes lead from a to b, and lines of n bytes from b to c, then lines of m + n
+    /// bytes lead from a to c.
     ghost joins: { (a b c : Self) (m n : ℕ) → leads a m b → leads b n c → leads a (m + n) c };
 
-    /// What lines leave of the room.
+    /// After lines there is as much room as they leave.
     ghost leaves: { (a b : Self) (m n : ℕ) → has_room a (m + n) → leads a m b → has_room b n };
 }

@@ -83,7 +83,7 @@ impl<S: Script, O: Sink> Runner for Scripted<'_, S, O> {
 }
 
 impl<S: Script, O: Sink> Scripted<'_, S, O> {
-    // Writes what stands before the text of the first line, and does the lines.
+    // Writes what comes before the text of the first line, and does the lines.
     fn run<R: LineReader>(&mut self, lines: &mut R) -> Result<S::Verdict, Fault>
         requires short { (R.limits lines.old).line ≤ S.longest }
         requires room { S.has_room self.old.script.now ((R.limits lines.old).input + 1) }
@@ -115,9 +115,9 @@ impl<S: Script, O: Sink> Scripted<'_, S, O> {
     }
 }
 
-/// Does the lines of a source from its front, up to its end or the first that ends the run, after
-/// what the script writes first. What is gathered is handed on before each read, so that a line's
-/// text is there before the next is awaited.
+/// Writes what the script writes first, and does the lines of a source from the first on, up to the
+/// end of the input or the first line that ends the run. What is gathered is handed on before each
+/// read, so that a line's text is out before the next line is awaited.
 pub fn do_lines<S: Script, R: LineReader, O: Sink>(
     script: &mut S,
     lines: &mut R,
@@ -145,7 +145,7 @@ pub fn do_lines<S: Script, R: LineReader, O: Sink>(
 {
     let mut scripted = Scripted { script, out };
     let result = scripted.run(lines);
-    // It says that `script` and `out` are what the run has left.
+    // Taking `scripted` apart makes it known that `script` and `out` are as the run has left them.
     let Scripted { script: _, out: _ } = scripted;
     result
 }

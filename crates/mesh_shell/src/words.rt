@@ -10,10 +10,10 @@ use thiserror::Error;
 /// Why there are no words to take.
 #[derive(Clone, Copy, Debug, PartialEq, Eq, Error)]
 pub enum WordsError {
-    /// A word is no text: such words are of no program's form.
+    /// A word isn't text, so the words are in none of the program's forms.
     #[error("a word is no text")]
     NotText,
-    /// Memory was asked for and not found.
+    /// Memory ran out.
     #[error("no memory for the words")]
     NoMemory,
 }
@@ -34,7 +34,7 @@ pub fn words_of<R: Env + AllocGlobal>(rt: &R) -> Result<Vec<String>, WordsError>
     Ok(words)
 }
 
-/// The words, as the top calls take them.
+/// The words as string slices, the form in which the top calls take them.
 pub fn texts_of(alloc: Global, words: &[String]) -> Result<Vec<&str>, WordsError>
     ensures same { IfOk result (λ all. map (λ t. t.now) all.items ≡ map string_bytes words.now) }
     ensures fault { IfErr result (λ e. e ≡ WordsError.NoMemory) }

@@ -1,2 +1,2 @@
--- Destinations: the text of one destination, whether it has something or not.
+-- Destinations: the text of what a node has for one destination, if it has anything.
 pub mod Destinations

@@ -17,7 +17,7 @@ use mesh_base::{LineBuf, Mesh};
 use mesh_io::{PutFault, Sink};
 use mesh_report::{put_asked, put_entry, put_number, put_waits};
 
-// The requests of one originator that were seen, by rising id.
+// Writes the requests of one originator that were seen, in ascending order of id.
 fn put_asked_of<O: Sink>(
     mesh: &Mesh,
     asked: &Asked,
@@ -39,7 +39,7 @@ fn put_asked_of<O: Sink>(
     Ok(())
 }
 
-// All requests that were seen, by rising originator.
+// Writes all requests that were seen, in ascending order of originator.
 fn put_all_asked<O: Sink>(
     mesh: &Mesh,
     asked: &Asked,
@@ -57,7 +57,7 @@ fn put_all_asked<O: Sink>(
     Ok(())
 }
 
-// The entry of one destination, if there is one.
+// Writes the entry for one destination, if there is one.
 fn put_entry_of<O: Sink>(
     mesh: &Mesh,
     node: &Node,
@@ -78,7 +78,7 @@ fn put_entry_of<O: Sink>(
     }
 }
 
-// The routing table, by rising destination.
+// Writes the routing table, in ascending order of destination.
 fn put_entries<O: Sink>(
     mesh: &Mesh,
     node: &Node,
@@ -97,7 +97,7 @@ fn put_entries<O: Sink>(
     Ok(())
 }
 
-// What waits for one destination, if anything does.
+// Writes what waits for one destination, if anything does.
 fn put_waits_of<O: Sink>(
     mesh: &Mesh,
     waiting: &Waiting,
@@ -124,7 +124,7 @@ fn put_waits_of<O: Sink>(
     )
 }
 
-// All data that wait, by rising destination.
+// Writes what waits, in ascending order of destination.
 fn put_all_waits<O: Sink>(
     mesh: &Mesh,
     waiting: &Waiting,
@@ -144,8 +144,8 @@ fn put_all_waits<O: Sink>(
 }
 
 /// Writes the state of a node: its own number, the requests that it has seen, its entries and its
-/// waiting data, each by rising address, and how many items its inbox has. It takes no memory, and
-/// each line is one piece for the sink.
+/// waiting data, each in ascending order of address, and how many items its inbox has. It takes no
+/// memory, and each line is handed to the sink as one piece.
 #[tactic(auto, unfolding(mesh_text::specs::Tables::node_text))]
 pub fn put_node<O: Sink>(
     mesh: &Mesh,

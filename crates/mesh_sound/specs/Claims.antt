@@ -13,16 +13,16 @@ use Rattle.mesh_meaning.specs.Packets.{IsWritten}
 use Rattle.mesh_sound.specs.declared.packets.Claim.{Claim}
 use Rattle.mesh_sound.specs.declared.packets.Claim.TheVariants as claims
 
--- each node is of a mesh of so many nodes
+-- each node is one of a mesh of as many nodes as these
 abbrev pub AreSized : List NodeSeen → Type 0
 AreSized nodes = AllByRecursion (λ n. n.size ≡ length nodes) nodes
 
--- as many nodes as the mesh has, each of a mesh of so many
+-- as many nodes as the mesh has, each one of a mesh of that size
 pub record AreOf (mesh : Nodes) (nodes : List NodeSeen) : Type 0 where
   pub count : length nodes ≡ length mesh
   pub sizes : AreSized nodes
 
--- the table of a node, empty where there is none
+-- the table of a node, empty if there is none
 abbrev pub table_in : Option NodeSeen → Table
 table_in None = maps.empty
 table_in (Some n) = (n.core).rt
@@ -53,8 +53,8 @@ Holds claims.Request mesh nodes from bytes =
 Holds claims.Reply mesh nodes from bytes =
     IsHonestIfReply (table nodes from) from (meaning mesh bytes)
 
--- what is to be known of a packet before the claim is decided: requests and replies are read of
--- written packets
+-- what has to be known of a packet before the claim is decided: requests and replies are read only
+-- from written packets
 abbrev pub IsReadable : Claim → Nodes → ℕ → List ℕ → Type 0
 IsReadable claims.Written mesh from bytes = ⊤
 IsReadable others mesh from bytes = IsWritten mesh bytes

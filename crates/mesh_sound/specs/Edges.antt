@@ -9,11 +9,11 @@ use Rattle.mesh_sound.specs.Claims.{table}
 abbrev pub IsBackedAt : List NodeSeen → ℕ → ℕ → Type 0
 IsBackedAt nodes x d = IfSome (maps.get (table nodes x) d) (IsBacked (table nodes) d)
 
--- every entry of these nodes is
+-- every entry of these nodes is backed
 abbrev pub AreBacked : List NodeSeen → Type 0
 AreBacked nodes = (x d : ℕ) → IsBackedAt nodes x d
 
--- by node, and then by destination
+-- node y and destination q come before x and d: by node, and then by destination
 abbrev pub IsBefore : ℕ → ℕ → ℕ → ℕ → Type 0
 IsBefore y q x d = (y < x) ⊎ ((y ≡ x) × (q < d))
 

@@ -6,7 +6,7 @@ use Rattle.mesh_base.specs.declared.events.Item.TheVariants.{New, Heard}
 use Rattle.mesh_base.specs.declared.events.Flying.{Flying}
 use Rattle.aodv_node.specs.Seen.{NodeSeen}
 
--- P holds of the item's sender and packet. A datum that is given to a node is no packet
+-- P holds of the item's sender and packet. A datum that is given to a node isn't a packet
 abbrev pub InItem : (ℕ → List ℕ → Type 0) → Item → Type 0
 InItem P (New dest body) = ⊤
 InItem P (Heard from bytes) = P from bytes

@@ -15,7 +15,8 @@ fn is_backed(nodes: &[Node], x: usize, d: usize) -> bool
     ensures { IsTrue result ↔ IsBackedAt nodes.now x d }
 {
     let node = &nodes[x];
-    // What is read of a node is in order: next hops are in the mesh, and no entry has 0 hops.
+    // The contract of `sn` says that the node is in order: next hops are in the mesh, and no entry
+    // has 0 hops.
     let _number = node.sn();
     let Some(entry) = node.entry(d) else {
         return true;
@@ -37,7 +38,8 @@ fn first_dest(nodes: &[Node], x: usize) -> Option<usize>
     ensures least { IfSome result (λ d. (q : ℕ) → q < d → IsBackedAt nodes.now x q) }
     ensures within { IfSome result (λ d. d < length nodes.now) }
 {
-    // What is read of a node is in order: it has entries for nodes of the mesh only.
+    // The contract of `sn` says that the node is in order: it has entries only for nodes of the
+    // mesh.
     let _number = nodes[x].sn();
     for d in 0..nodes.len() {
         if !is_backed(nodes, x, d) {
@@ -47,8 +49,9 @@ fn first_dest(nodes: &[Node], x: usize) -> Option<usize>
     None
 }
 
-/// The first entry that isn't backed by its next hop: its node and its destination, of the least
-/// node, and of that the least destination. Each entry is looked at once, and so is the next hop's.
+/// The first entry that isn't backed by its next hop, as its node and its destination: the least
+/// such node, and the least such destination of that node. Each entry is looked at once, with that
+/// of its next hop.
 pub fn first_edge(nodes: &[Node]) -> Option<(usize, usize)>
     requires sizes { AreSized nodes.now }
     ensures none { IfNone result (AreBacked nodes.now) }

@@ -12,7 +12,7 @@ use aodv_node::Node;
 use aodv_wire::{Message, Rrep, Rreq, read};
 use mesh_base::Mesh;
 
-// Whether the entry's number is above n, or is n, and the entry is valid with at most h hops.
+// Whether the entry's number is above n; or it is n, and the entry is valid with at most h hops.
 fn is_at_least(entry: &Entry, n: u32, h: u8) -> bool
     ensures { IsTrue result ↔ IsAtLeast entry.now n h }
 {
@@ -25,7 +25,8 @@ fn is_at_least(entry: &Entry, n: u32, h: u8) -> bool
     }
 }
 
-/// Whether node x has such an entry for d.
+/// Whether node x has an entry for d whose number is above n; or is n, and the entry is valid with
+/// at most h hops.
 pub(crate) fn has_at_least(nodes: &[Node], x: usize, d: usize, n: u32, h: u8) -> bool
     requires sizes { AreSized nodes.now }
     requires node { x < length nodes.now }
@@ -72,7 +73,7 @@ pub(crate) fn is_honest_if_request(mesh: &Mesh, nodes: &[Node], from: usize, byt
     ensures { IsTrue result
         ↔ IsHonestIfRequest (table nodes.now from) from (meaning mesh.now bytes.now) }
 {
-    // It says that the addresses of a mesh rise.
+    // The contract of `len` says that the addresses of a mesh rise.
     let _nodes = mesh.len();
     match read(bytes) {
         Ok(Message::Rreq(m)) => is_honest_request(mesh, nodes, from, &m),
@@ -88,7 +89,7 @@ pub(crate) fn is_honest_if_reply(mesh: &Mesh, nodes: &[Node], from: usize, bytes
     ensures { IsTrue result
         ↔ IsHonestIfReply (table nodes.now from) from (meaning mesh.now bytes.now) }
 {
-    // It says that the addresses of a mesh rise.
+    // The contract of `len` says that the addresses of a mesh rise.
     let _nodes = mesh.len();
     match read(bytes) {
         Ok(Message::Rrep(m)) => is_honest_reply(mesh, nodes, from, &m),

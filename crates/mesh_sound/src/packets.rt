@@ -42,7 +42,7 @@ fn holds(
     }
 }
 
-// Whether the claim holds of an item's packet. A datum that is given to a node is no packet.
+// Whether the claim holds of an item's packet. A datum that is given to a node isn't a packet.
 fn holds_of_item(claim: Claim, mesh: &Mesh, nodes: &[Node], item: &Item, again: &mut Packet) -> bool
     requires nodes { AreOf mesh.now nodes.now }
     requires from { InItem (λ from _. from < length mesh.now) item.now }
@@ -69,7 +69,7 @@ fn holds_of_inbox(
     ensures { IsTrue result
         ↔ AllByRecursion (InItem (Holds claim mesh.now nodes.now)) node.now.items }
 {
-    // What is read of a node is in order: those whom it heard are in the mesh.
+    // The contract of `sn` says that the node is in order: those that it heard are in the mesh.
     let _number = node.sn();
     let inbox = node.inbox();
     for k in 0..inbox.len() {

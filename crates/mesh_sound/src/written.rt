@@ -33,7 +33,7 @@ fn are_all_known(mesh: &Mesh, m: &RerrView<'_>) -> bool
     true
 }
 
-// Whether the message names nodes of the mesh only.
+// Whether the message names only nodes of the mesh.
 fn is_known(mesh: &Mesh, m: &Message<'_>) -> bool
     ensures { IsTrue result ↔ (stranger mesh.now m.now ≡ None) }
 {
@@ -100,12 +100,12 @@ fn write_again(m: &Message<'_>, out: &mut Packet)
 }
 
 /// Whether the bytes are the packet that is written of what they mean. They are read, and written
-/// again into `again`: reserved bits and a lifetime that no node writes are no part of a message.
+/// again into `again`: reserved bits and a lifetime that no node writes aren't part of a message.
 pub(crate) fn is_written(mesh: &Mesh, bytes: &[u8], again: &mut Packet) -> bool
     requires some { 1 ≤ length mesh.now }
     ensures { IsTrue result ↔ IsWritten mesh.now bytes.now }
 {
-    // It says that the addresses of a mesh rise.
+    // The contract of `len` says that the addresses of a mesh rise.
     let _nodes = mesh.len();
     let Ok(message) = read(bytes) else {
         return false;

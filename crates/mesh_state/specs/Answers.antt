@@ -1,5 +1,5 @@
--- What a call has written and answered. Where a sink doesn't tell what it holds, the answer alone
--- is claimed.
+-- What a call has written and answered. If it isn't known what the sink holds, only the answer is
+-- claimed.
 use Rattle.std.specs.Prelude.{◌≡◌, ◌≢◌, ◌⊎◌, ℕ, List, ◌++◌, Option, IfSome, ⊤}
 use Rattle.std.specs.Io.KnownBytes.{Keeps}
 use Rattle.mesh_base.specs.declared.events.Variant.TheVariants.{Base}
@@ -42,7 +42,7 @@ pub record IsTooBig (w : RunText) (before now : Option (List ℕ)) : Type 0 wher
   pub long : IsTooLong w.after
   pub kept : Keeps before now
 
--- where the run isn't done, what was written and answered is that of a run that tells its faults
+-- if the run isn't done, what was written and answered is that of a run that writes its faults
 -- alone
 abbrev pub IsRunSaved : List ℕ → Option (List ℕ) → Option (List ℕ) → Option (List ℕ) → Status
     → Type 0
@@ -55,7 +55,7 @@ IsRunSaved bytes left before now others =
 
 -- ---- with `go`, of an input that begins with a checkpoint
 
--- no refusal applies. Want of memory is none
+-- no refusal applies. Lack of memory doesn't count as one
 abbrev pub IsUnrefused : List ℕ → Type 0
 IsUnrefused front = (why : StateError) → why ≢ errors.NoMemory → ¬ (IsRefused front why)
 
@@ -67,7 +67,7 @@ pub record IsRunOn (bytes : List ℕ) (left before now : Option (List ℕ)) (s :
   pub state : IsState (front_of bytes) start
   pub told : IsOutputFrom All start (rest_of bytes) left before now s
 
--- the front was refused once it was read, or by its first 8 bytes, and nothing was written
+-- the front was refused once it had been read, or for its first 8 bytes, and nothing was written
 pub record IsBadState (bytes : List ℕ) (left before now : Option (List ℕ)) (why : StateError)
     : Type 0 where
   pub taken : List ℕ
@@ -76,8 +76,8 @@ pub record IsBadState (bytes : List ℕ) (left before now : Option (List ℕ)) (
   pub refusal : why ≢ errors.NoMemory
   pub kept : Keeps before now
 
--- it ran so; or nothing was written, where a read failed within the front, or memory ran out before
--- the run
+-- the run was as `ran` says; or nothing was written, since a read failed within the front, or
+-- memory ran out before the run
 abbrev pub RanUnlessCut : (Status → Type 0) → List ℕ → Option (List ℕ) → Option (List ℕ)
     → Option (List ℕ) → Status → Type 0
 RanUnlessCut ran bytes left before now Usage = ⊥
@@ -86,13 +86,13 @@ RanUnlessCut ran bytes left before now ReadFault =
 RanUnlessCut ran bytes left before now NoMemory = Keeps before now ⊎ ran NoMemory
 RanUnlessCut ran bytes left before now others = ran others
 
--- the rest was run from the front's state on
+-- the rest was run from the front's state on, unless the run didn't begin
 abbrev pub IsRunGone : List ℕ → Option (List ℕ) → Option (List ℕ) → Option (List ℕ) → Status
     → Type 0
 IsRunGone bytes left before now s =
     RanUnlessCut (IsRunOn bytes left before now) bytes left before now s
 
--- what was written and answered of the second lines is what they come to below the first
+-- what was written and answered is what the second lines come to below the first
 abbrev pub IsGoneOn : List ℕ → List ℕ → Option (List ℕ) → Option (List ℕ) → Option (List ℕ)
     → Status → Type 0
 IsGoneOn first second left before now s =
@@ -101,7 +101,7 @@ IsGoneOn first second left before now s =
 
 -- ---- either
 
--- the call has answered for what was asked, where the source gave these bytes and has this left
+-- the call has answered for what was asked; the source gave these bytes, and has these left
 abbrev pub IsAnswered : Asked → List ℕ → Option (List ℕ) → Option (List ℕ) → Option (List ℕ)
     → StateStatus → Type 0
 IsAnswered Save bytes left before now (Run s) = IsRunSaved bytes left before now s
@@ -111,8 +111,8 @@ IsAnswered Go bytes left before now (Run s) = IsRunGone bytes left before now s
 IsAnswered Go bytes left before now (BadState why) = IsBadState bytes left before now why
 IsAnswered Go bytes left before now TooBig = ⊥
 
--- with `go`, where the source gave the checkpoint of a schedule's last state and then more lines,
--- the run went on as that of the schedule with these lines behind it; the checkpoint isn't refused
+-- with `go`, if the source gave the checkpoint of a schedule's last state and then more lines, the
+-- run went on as that of the schedule followed by these lines; the checkpoint isn't refused
 abbrev pub IsContinued : Asked → List ℕ → Option (List ℕ) → Option (List ℕ) → Option (List ℕ)
     → StateStatus → Type 0
 IsContinued Go bytes left before now (Run s) =
@@ -139,7 +139,7 @@ HasRefusal Save bytes = ⊥
 HasRefusal Go bytes =
     (why : StateError) × (why ≢ errors.NoMemory) × IsRefused (front_of bytes) why
 
--- what is answered of a front that isn't loaded
+-- the answer for a front that isn't loaded
 abbrev pub answer_by : StateError → StateStatus
 answer_by errors.NotState = BadState errors.NotState
 answer_by errors.Length = BadState errors.Length
@@ -152,38 +152,39 @@ answer_by errors.NoMemory = Run NoMemory
 abbrev pub IsRefusal : StateStatus → Type 0
 IsRefusal answer = (why : StateError) × (answer ≡ BadState why)
 
--- done, or short of memory
+-- the call is done, or memory ran out
 abbrev pub IsDoneOrShort : StateStatus → Type 0
 IsDoneOrShort answer = (answer ≡ Run Done) ⊎ (answer ≡ Run NoMemory)
 
--- a refusal, or short of memory
+-- the front is refused, or memory ran out
 abbrev pub IsRefusalOrShort : StateStatus → Type 0
 IsRefusalOrShort answer = IsRefusal answer ⊎ (answer ≡ Run NoMemory)
 
--- ---- what the clauses say, of what is asked for and of the bytes that the source gives. Where
--- nothing is asked for, or the source doesn't tell its bytes, they say nothing
+-- ---- what the clauses say about what is asked for and the bytes that the source gives. If nothing
+-- is asked for, or the bytes aren't known, they say nothing
 
--- it was answered for
+-- the call has answered for what was asked
 abbrev pub HasAnswered : Option Asked → Option (List ℕ) → Option (List ℕ) → Option (List ℕ)
     → Option (List ℕ) → StateStatus → Type 0
 HasAnswered asked given left before now answer =
     IfSome asked (λ a. IfSome given (λ bytes. IsAnswered a bytes left before now answer))
 
--- where nothing of it is refused, and the counts of faults, from r to s for the source and from w
--- to x for the sink, show none, it was done, unless memory ran out
+-- if what is asked for these bytes is allowed, and the counts of faults, from r to s for the source
+-- and from w to x for the sink, show none, it was done, unless memory ran out
 abbrev pub HasCompleted : Option Asked → Option (List ℕ) → (r s w x : ℕ) → StateStatus → Type 0
 HasCompleted asked given r s w x answer =
     IfSome asked (λ a. IfSome given (λ bytes.
     IsAllowed a bytes → ¬ (Rose r s) → ¬ (Rose w x) → IsDoneOrShort answer))
 
--- where its front is refused, and the source's count shows no fault, that was answered, unless
+-- if the front is refused, and the source's count shows no fault, a refusal was answered, unless
 -- memory ran out
 abbrev pub HasRefused : Option Asked → Option (List ℕ) → (r s : ℕ) → StateStatus → Type 0
 HasRefused asked given r s answer =
     IfSome asked (λ a. IfSome given (λ bytes.
     HasRefusal a bytes → ¬ (Rose r s) → IsRefusalOrShort answer))
 
--- where it began with the checkpoint of a schedule's last state, the run went on as the schedule's
+-- if the bytes began with the checkpoint of a schedule's last state, the run went on as that of the
+-- schedule
 abbrev pub HasGoneOn : Option Asked → Option (List ℕ) → Option (List ℕ) → Option (List ℕ)
     → Option (List ℕ) → StateStatus → Type 0
 HasGoneOn asked given left before now answer =

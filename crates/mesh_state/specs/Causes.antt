@@ -1,4 +1,4 @@
--- When a call answers a fault of its source or its sink, and that no other answer made one.
+-- When a call answers with a fault of its source or its sink.
 use Rattle.std.specs.Prelude.{ℕ, ◌≡◌, ◌≢◌, ◌≤◌}
 use Rattle.mesh_io.specs.Cause.{Rose}
 use Rattle.mesh_run.specs.Causes.{HasCauseIf}
@@ -6,8 +6,9 @@ use Rattle.mesh_run.specs.declared.status.Status.TheVariants.{ReadFault, WriteFa
 use Rattle.mesh_state.specs.declared.status.StateStatus.{StateStatus}
 use Rattle.mesh_state.specs.declared.status.StateStatus.TheVariants.{Run}
 
--- where a read failed, and then a write of what was gathered before it, the sink's fault is
--- answered
+-- the source has failed where its fault is answered, and has not where neither its fault nor the
+-- sink's is. If a read has failed, and then the write of what was gathered before it, the sink's
+-- fault is answered
 pub record HasReadCause (before now : ℕ) (answer : StateStatus) : Type 0 where
   pub later : before ≤ now
   pub failed : answer ≡ Run ReadFault → Rose before now

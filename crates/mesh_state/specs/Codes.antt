@@ -28,7 +28,7 @@ error_reason errors.Sums = codes "a checkpoint whose data aren't accounted for\n
 error_reason (errors.Unsound part) = part_reason part
 error_reason errors.NoMemory = []
 
--- a line for standard error, where there is no text that tells it
+-- a line for standard error, if no text says the reason
 abbrev pub reason_of : StateStatus → List ℕ
 reason_of (Run status) = []
 reason_of (BadState why) = error_reason why

@@ -1,18 +1,18 @@
--- The front of an input, where a checkpoint stands, and the rest that follows it.
+-- The front of an input, where a checkpoint is, and the rest that follows it.
 use Rattle.std.specs.Prelude.{ℕ, ◌≡◌, ◌≢◌, ◌<◌, ◌+◌, ◌⊎◌, Bool, ◌&&◌, nat_le, if◌then◌else◌, List, length, take, drop, Option, Some, None, ⊤}
 use Rattle.std.specs.Io.KnownBytes.{Consumes}
 use Rattle.mesh_checkpoint.specs.declared.limits.TheConstants.{LONGEST_BODY}
 use Rattle.mesh_checkpoint.specs.State.{magic, stated_size}
 use Rattle.mesh_state.specs.declared.front.TheConstants.{HEAD_SIZE}
 
--- a head is there, and behind it as many bytes as it states, within the limit
+-- a head is there, and after it as many bytes as it states, within the limit
 abbrev pub has_body : List ℕ → Bool
 has_body bytes =
     nat_le HEAD_SIZE (length bytes) && nat_le (stated_size bytes) LONGEST_BODY
     && nat_le (HEAD_SIZE + stated_size bytes) (length bytes)
 
--- the front has the first 8 bytes and as many more as they state; it is the whole input where that
--- is more than the limit or than there is
+-- the front has the first 8 bytes and as many more as they state; it is the whole input if that is
+-- more than the limit or more than there is
 abbrev pub front_size : List ℕ → ℕ
 front_size bytes = if has_body bytes then HEAD_SIZE + stated_size bytes else length bytes
 
@@ -23,26 +23,26 @@ front_of bytes = take (front_size bytes) bytes
 unfoldable pub rest_of : List ℕ → List ℕ
 rest_of bytes = drop (front_size bytes) bytes
 
--- a whole head behind which no checkpoint's body follows: its first bytes are others, or the length
--- that it states is above the limit
+-- a whole head that no checkpoint's body follows: its first four bytes aren't a checkpoint's, or
+-- the length that it states is above the limit
 pub record IsOtherHead (head : List ℕ) : Type 0 where
   pub whole : length head ≡ HEAD_SIZE
   pub other : (take 4 head ≢ magic) ⊎ (LONGEST_BODY < stated_size head)
 
--- the front was taken of these bytes, and the rest is left. Their first 8 don't show that no body
--- follows
+-- the front of these bytes was taken, and the rest is left. The first 8 bytes don't show that no
+-- body follows
 pub record IsFrontTaken (bytes taken : List ℕ) (left : Option (List ℕ)) : Type 0 where
   pub same_head : ¬ (IsOtherHead (take HEAD_SIZE bytes))
   pub front : taken ≡ front_of bytes
   pub rest : left ≡ Some (rest_of bytes)
 
--- their first 8 alone, which show that no body follows
+-- the first 8 of these bytes were taken, and show that no body follows
 pub record IsHeadTaken (bytes taken : List ℕ) (left : Option (List ℕ)) : Type 0 where
   pub head : taken ≡ take HEAD_SIZE bytes
   pub other : IsOtherHead taken
   pub rest : left ≡ Some (drop HEAD_SIZE bytes)
 
--- either of these
+-- either the front was taken, or its first 8 bytes
 abbrev pub IsTaken : List ℕ → List ℕ → Option (List ℕ) → Type 0
 IsTaken bytes taken left = IsFrontTaken bytes taken left ⊎ IsHeadTaken bytes taken left
 
@@ -54,11 +54,11 @@ pub record IsFrontCut (bytes : List ℕ) (left : Option (List ℕ)) : Type 0 whe
   pub fewer : length taken < HEAD_SIZE + stated_size taken
   pub same_head : ¬ (IsOtherHead (take HEAD_SIZE taken))
 
--- these bytes were taken of the known bytes, and are fewer than so many
+-- these bytes were taken of the known bytes, and are fewer than `count`
 abbrev pub TakesFewer : ℕ → Option (List ℕ) → Option (List ℕ) → List ℕ → Type 0
 TakesFewer count before left taken = Consumes before left taken × (length taken < count)
 
--- so many bytes were taken of the known bytes, or all where there are fewer
+-- `count` bytes were taken of the known bytes, or all of them if there are fewer
 abbrev pub TakesUpTo : ℕ → Option (List ℕ) → Option (List ℕ) → List ℕ → Type 0
 TakesUpTo count None left taken = ⊤
 TakesUpTo count (Some bytes) left taken =

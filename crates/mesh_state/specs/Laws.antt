@@ -10,12 +10,12 @@ use Rattle.mesh_load.specs.RunStates.{IsPlainRunState}
 use Rattle.mesh_state.specs.Fronts.{front_of, rest_of}
 use Rattle.mesh_state.specs.Saved.{HasWholeLines, IsSavedOf}
 
--- of a checkpoint and what follows it, the checkpoint is the front
+-- in a checkpoint and what follows it, the checkpoint is the front
 abbrev pub CheckpointIsFront : Type 0
 CheckpointIsFront = (m : RunState) (saved rest : List ℕ) → IsState saved m
     → (front_of (saved ++ rest) ≡ saved) × (rest_of (saved ++ rest) ≡ rest)
 
--- the run of a schedule in two parts, of which the first has whole lines that were all allowed and
+-- the run of a schedule in two parts, the first of which has whole lines that were all allowed and
 -- done, is that of the first, and then that of the second from the state after the first on
 abbrev pub SavedRunGoesOn : Type 0
 SavedRunGoesOn = (first second : List ℕ) → HasWholeLines first
@@ -24,8 +24,8 @@ SavedRunGoesOn = (first second : List ℕ) → HasWholeLines first
     ≡ lines_before (text_of_input Base first).lines
     (text_on (text_of_input Base first).after second)
 
--- a run that goes on from a state with this checkpoint, with the lines behind it, is that of the
--- whole schedule below the lines that were done
+-- the run of a schedule whose first part was saved is that of the first part, and then the run of
+-- the second from a state with this checkpoint on
 abbrev pub LoadedRunGoesOn : Type 0
 LoadedRunGoesOn = (first second saved : List ℕ) (start : RunState) → IsSavedOf first saved
     → length (first ++ second) ≤ LONGEST_INPUT

@@ -3,7 +3,7 @@
 pub mod Words
 -- Codes: the status with which the process ends.
 pub mod Codes
--- Fronts: the front of an input, where a checkpoint stands, and the rest that follows it.
+-- Fronts: the front of an input, where a checkpoint is, and the rest that follows it.
 pub mod Fronts
 -- Small: what the run of a schedule can have counted.
 pub mod Small

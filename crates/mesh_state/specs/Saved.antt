@@ -6,7 +6,7 @@ use Rattle.mesh_text.specs.Text.{RunText, lines_before, text_of_input}
 use Rattle.mesh_text.specs.declared.verdict.Verdict.TheVariants.{Finished}
 use Rattle.mesh_checkpoint.specs.Points.{IsState}
 
--- no bytes, or bytes of which the last is an LF
+-- no bytes, or bytes that end with an LF
 abbrev pub HasWholeLines : List ℕ → Type 0
 HasWholeLines bytes = (bytes ≡ []) ⊎ ((front : List ℕ) × (bytes ≡ front ++ 10 ∷ []))
 
@@ -17,8 +17,8 @@ pub record IsSavedOf (first saved : List ℕ) : Type 0 where
   pub finished : (text_of_input Base first).verdict ≡ Finished
   pub state : IsState saved (text_of_input Base first).after
 
--- the run of the schedule with more lines behind it, within the limit of an input, is the
--- schedule's lines and then this text of the others, with its verdict
+-- the run of the schedule followed by more lines, within the limit of an input, is the schedule's
+-- lines and then this text of the others, with its verdict
 abbrev pub IsTextBelow : List ℕ → (List ℕ → RunText) → Type 0
 IsTextBelow first text =
     (more : List ℕ) → length (first ++ more) ≤ LONGEST_INPUT

@@ -1,4 +1,4 @@
-//! The front of an input, where a checkpoint stands.
+//! The front of an input, where a checkpoint is.
 ghost use Rattle.std.specs.Prelude.{◌≡◌, ◌≤◌, ◌<◌, ◌+◌, ◌⊎◌, length, take, drop, IfOk, IfSome, IfNone, IsErrOf, vec_len};
 ghost use Rattle.mesh_run.specs.Causes.{HasCauseIf};
 ghost use Rattle.mesh_checkpoint.specs.State.{magic, stated_size};
@@ -11,7 +11,7 @@ use std::alloc::Global;
 /// The size of a head, in bytes: four that say what it is, and four that state the body's length.
 pub const HEAD_SIZE: usize = 8;
 
-// How many bytes a read asks for at most.
+// The most bytes that a read asks for.
 const ASKED: usize = 4096;
 
 /// Why a front wasn't read.
@@ -19,11 +19,11 @@ const ASKED: usize = 4096;
 pub enum FrontError {
     /// The source failed.
     ReadFault,
-    /// Memory was asked for and not found.
+    /// Memory was asked for, and there wasn't enough.
     NoMemory,
 }
 
-// Reads so many bytes behind those that are there, or all that come where there are fewer.
+// Reads `count` bytes and appends them to those that are there, or all that come if they are fewer.
 fn take_more<I: Source>(input: &mut I, count: usize, bytes: &mut Vec<u8>) -> Result<(), FrontError>
     ensures kept { take (vec_len bytes.old) bytes.new.items ≡ bytes.old.items }
     ensures few { vec_len bytes.new ≤ vec_len bytes.old + count }
@@ -52,7 +52,7 @@ fn take_more<I: Source>(input: &mut I, count: usize, bytes: &mut Vec<u8>) -> Res
     Ok(())
 }
 
-// How many bytes of a body follow a head: none where it isn't whole, or another.
+// How many bytes of a body follow a head. None if the head isn't whole, or no body follows it.
 fn body_size(head: &[u8]) -> Option<usize>
     requires { length head.now ≤ HEAD_SIZE }
     ensures whole { IfSome result (λ size. length head.now ≡ HEAD_SIZE) }
@@ -71,10 +71,10 @@ fn body_size(head: &[u8]) -> Option<usize>
     Some(size as usize)
 }
 
-/// Reads the front of an input. Where its first 8 bytes show that no checkpoint's body follows, no
-/// byte beyond them is read; else none beyond the front.
+/// Reads the front of an input. If its first 8 bytes show that no checkpoint's body follows, no
+/// byte beyond them is read; otherwise none beyond the front.
 ///
-/// The bytes are kept as they come, so a length that is stated and not kept takes no memory.
+/// Memory is taken for the bytes as they come, and not for a length that a head merely states.
 pub fn take_front<I: Source>(alloc: Global, input: &mut I) -> Result<Vec<u8>, FrontError>
     ensures taken { IfOk result (λ front. IfSome (I.left input.old) (λ bytes.
         IsTaken bytes front.items (I.left input.new))) }

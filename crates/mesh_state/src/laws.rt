@@ -3,8 +3,7 @@ ghost use Rattle.mesh_state.specs.Laws.{CheckpointIsFront, SavedRunGoesOn, Loade
 
 use mesh_load::one_start;
 
-/// Of a checkpoint and the lines that follow it, the checkpoint is the front, and the lines are the
-/// rest.
+/// In a checkpoint followed by lines, the checkpoint is the front, and the lines are the rest.
 pub fn a_checkpoint_is_the_front()
     ensures { CheckpointIsFront }
 {}
@@ -15,8 +14,8 @@ pub fn a_saved_run_goes_on()
     ensures { SavedRunGoesOn }
 {}
 
-/// A run that goes on from the checkpoint of a schedule's last state is that of the schedule with
-/// the lines that follow behind it.
+/// The run of a schedule followed by more lines is that of the schedule, and then the run that goes
+/// on with these lines from the checkpoint of the schedule's last state.
 pub fn a_loaded_run_goes_on()
     ensures { LoadedRunGoesOn }
 {

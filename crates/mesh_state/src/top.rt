@@ -68,8 +68,8 @@ fn save_from<I: Source, O: Sink>(
     }
 }
 
-// The same, in a world of its own. It stands apart, so that what goes on from a checkpoint doesn't
-// pay for its frame.
+// As `save_from`, with a run of its own. It isn't inlined: its frame would take stack while a run
+// goes on from a checkpoint.
 #[inline(never)]
 fn save<I: Source, O: Sink>(alloc: Global, input: &mut I, out: &mut O) -> StateStatus
     ensures told { HasAnswered (Some Asked.Save) (I.left input.old)
@@ -87,7 +87,7 @@ fn save<I: Source, O: Sink>(alloc: Global, input: &mut I, out: &mut O) -> StateS
     save_from(&mut running, input, out)
 }
 
-// What is answered of a front that isn't loaded.
+// The answer for a front that isn't loaded.
 fn answer_by(why: StateError) -> StateStatus
     ensures { result ≡ answer_by why }
 {
@@ -97,15 +97,15 @@ fn answer_by(why: StateError) -> StateStatus
     }
 }
 
-// The run comes to be in this state, where it stands.
+// Puts the run into this state, in place.
 fn come_to(at: &mut Point<World>, state: State<World>)
     ensures { at.new ≡ state }
 {
     at.state = state;
 }
 
-// Does the lines of an input from a state on. It stands apart, so that what loads the state, which
-// takes a third of a point's room, doesn't pay for its frame.
+// Does the lines of an input from a state on. It isn't inlined: its frame, with a whole point,
+// would take stack while the state, which has a third of a point's size, is loaded.
 #[inline(never)]
 fn go_on<I: Source, O: Sink>(alloc: Global, at: State<World>, input: &mut I, out: &mut O) -> Status
     requires lines { at.lines < most_lines_before_run }
@@ -147,7 +147,7 @@ fn go<I: Source, O: Sink>(alloc: Global, input: &mut I, out: &mut O) -> StateSta
     }
 }
 
-// Answers for what is asked.
+// Does what is asked.
 fn answer<I: Source, O: Sink>(
     alloc: Global,
     asked: Asked,
@@ -169,11 +169,12 @@ fn answer<I: Source, O: Sink>(
 
 /// Writes the checkpoint of a run, or goes on from one.
 ///
-/// With the one word `save` the schedule that the source gives is run in a world of its own, where
-/// all nodes run the protocol as AWN has it, and where it is done the checkpoint of its last state
-/// is written; of a line that is refused, or has an event for a full counter, the last line of the
-/// run's text is. With the one word `go` the source gives a checkpoint and then lines, and these
-/// are run from the checkpoint's state on, and their text is written.
+/// With the one word `save`, the schedule that the source gives is run in a world of its own, in
+/// which all nodes run the protocol as AWN has it. If the whole schedule is done, the checkpoint of
+/// its last state is written; if a line is refused, or has an event that would raise a full
+/// counter, the last line of the run's text is written instead. With the one word `go`, the source
+/// gives a checkpoint and then lines: these are run from the checkpoint's state on, and their text
+/// is written.
 pub fn state<I: Source, O: Sink>(
     alloc: Global,
     words: &[&str],
@@ -186,24 +187,23 @@ pub fn state<I: Source, O: Sink>(
     ensures untouched_by_other_words { result ≡ StateStatus.Run Status.Usage
         → (input.new ≡ input.old) × (out.new ≡ out.old) }
 
-    // With `save` the answer is the verdict of the run, and where that is done the checkpoint of
-    // its last state is written, unless its body is too long. With `go` the answer is the first
-    // refusal of the front, and nothing is written; or the front is the checkpoint of one run
-    // state, and what is written and answered is the text and the verdict of the rest from there.
-    // After a failed read the text of the lines that were read whole is written, and nothing only
-    // where fewer bytes were taken than the front has; after a failed write, or want of memory, a
-    // prefix.
+    // With `save` the answer is the verdict of the run; if the run is done, the checkpoint of its
+    // last state is written, unless its body is too long. With `go` the answer is the first refusal
+    // of the front, and nothing is written; or the front is the checkpoint of one run state, and
+    // what is written and answered is the text and the verdict of the rest from there. After a
+    // failed read the text of the lines that were read whole is written, or nothing if fewer bytes
+    // were taken than the front has; after a failed write, or if memory runs out, a prefix.
     ensures told { HasAnswered (asked_of (map (λ w. w.now) words.now)) (I.left input.old)
         (I.left input.new) (O.held out.old) (O.held out.new) result }
 
-    // Where a schedule of whole lines is done, and the source gives the checkpoint of its last
-    // state and then more lines, `go` refuses nothing and goes on as the run of the schedule with
-    // these lines behind it: what is written is that run's text below the schedule's lines, and the
-    // answer is its verdict.
+    // If a schedule of whole lines is done, and the source gives the checkpoint of its last state
+    // and then more lines, `go` doesn't refuse the checkpoint and goes on as the run of the
+    // schedule followed by these lines: what is written is that run's text below the schedule's
+    // lines, and the answer is its verdict.
     ensures goes_on { HasGoneOn (asked_of (map (λ w. w.now) words.now)) (I.left input.old)
         (I.left input.new) (O.held out.old) (O.held out.new) result }
 
-    // Done only where the input was read to its end.
+    // Done is answered only where the input was read to its end.
     ensures done_at_the_end { result ≡ StateStatus.Run Status.Done → IsAtEnd (I.left input.new) }
 
     // A fault is answered only where the source or the sink has failed in this call, and no other
@@ -211,15 +211,17 @@ pub fn state<I: Source, O: Sink>(
     ensures cause_of_read_fault { HasReadCause (I.faults input.old) (I.faults input.new) result }
     ensures cause_of_write_fault { HasWriteCause (O.faults out.old) (O.faults out.new) result }
 
-    // Where nothing is refused and nothing has failed the call is done, unless memory runs out.
+    // If nothing is refused, no event would raise a full counter, the body to be written isn't too
+    // long, and neither the source nor the sink fails, the answer is Done, unless memory runs out.
     ensures complete { HasCompleted (asked_of (map (λ w. w.now) words.now)) (I.left input.old)
         (I.faults input.old) (I.faults input.new) (O.faults out.old) (O.faults out.new) result }
 
-    // Where the front is refused and no read has failed that is the answer, unless memory runs out.
+    // If the front is refused and no read has failed, a refusal is the answer, unless memory runs
+    // out.
     ensures refused { HasRefused (asked_of (map (λ w. w.now) words.now)) (I.left input.old)
         (I.faults input.old) (I.faults input.new) result }
 {
-    // A checkpoint is of one run state, and one of a run isn't refused.
+    // A checkpoint is that of one plain run state, and that of a state of a run isn't refused.
     one_start();
     a_run_is_unrefused();
     match asked_of(words) {

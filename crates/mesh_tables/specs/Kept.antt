@@ -1,4 +1,4 @@
--- How printed tables are kept: maps of maps, seen as lists by rising key.
+-- How printed tables are kept: as maps of maps, seen as lists by rising key.
 use Rattle.std.specs.Prelude.{ℕ, ◌+◌, ◌^◌, List, [], ◌∷◌, length, map, Option, Some, None}
 use Rattle.std.specs.BTreeMap.{BTreeMap}
 use Rattle.mesh_tables.specs.declared.row.Row.{Row}

@@ -1,6 +1,6 @@
 -- The tables that the lines of a text show. A line `show ADDR` opens a block, which goes on while
--- lines begin with two spaces; its `  entry ..` lines are the address's table, and a later block of
--- the address replaces it.
+-- lines begin with two spaces; its `  entry ..` lines are the table of that address, and a later
+-- block of the address replaces the table.
 use Rattle.std.specs.Prelude.{ℕ, ◌+◌, ◌==◌, Bool, ◌&&◌, ◌||◌, not, nat_lt, if◌then◌else◌, List, [], ◌∷◌, length, take, drop, Option, Some, None, option_map, option_and_then, codes, is_some, count_by}
 use Rattle.std.specs.List.{list_all}
 use Rattle.std.specs.Str.{bytes_eq}
@@ -37,15 +37,15 @@ ShownTables = List (ℕ × Table)
 abbrev pub table_in : ShownTables → ℕ → Option Table
 table_in shown x = lookup (is_at (nat_cmp x)) shown
 
--- what they answer
+-- these tables as a function
 abbrev pub tables_of : ShownTables → Tables
 tables_of shown x d = option_and_then (λ rows. row_in rows d) (table_in shown x)
 
--- the edges of x: its valid entries for others
+-- how many edges x has: its valid entries for other destinations
 abbrev pub edges_of : ℕ → Table → ℕ
 edges_of x rows = count_by (λ e. is_val (e.1).flag && not (e.0 == x)) rows
 
--- the edges of all destinations, also those whose next hop wasn't shown
+-- how many edges there are for all destinations, including those whose next hop wasn't shown
 abbrev pub edges_in : ShownTables → ℕ
 edges_in [] = 0
 edges_in (t ∷ ts) = edges_of t.0 t.1 + edges_in ts
@@ -69,8 +69,8 @@ abbrev pub is_list : List ℕ → Bool
 is_list word =
     bytes_eq word (codes "-") || list_all (λ part. is_some (address_of part)) (parts 44 word)
 
--- the row of these words: sequence number, whether it is known, flag, hop count from 1 to 255,
--- next hop
+-- the row that these words give: sequence number, whether that is known, flag, hop count from 1 to
+-- 255, next hop
 unfoldable pub row_of : List ℕ → List ℕ → List ℕ → List ℕ → List ℕ → Option Row
 row_of number known flag hops next =
     option_and_then (λ dsn. option_and_then (λ dsk. option_and_then (λ f. option_and_then (λ h.
@@ -111,15 +111,15 @@ abbrev pub with_block : ShownTables → Option Block → ShownTables
 with_block shown None = shown
 with_block shown (Some b) = insert_entry nat_cmp shown b.node b.rows
 
--- all that is shown: the open block closes
+-- all tables that were shown, with that of the open block
 abbrev pub shown_by : Reading → ShownTables
 shown_by r = with_block r.closed r.block
 
 abbrev pub closed_up : Reading → Reading
 closed_up r = record r { closed = shown_by r; block = None }
 
--- None says that a line is refused.
--- a block of x opens, which is empty. Some 201st address is refused
+-- an empty block of x opens; a 201st address is refused. None, here and below, says that the line
+-- is refused
 abbrev pub opened_at : Reading → Option ℕ → Option Reading
 opened_at r None = None
 opened_at r (Some x) =
@@ -131,14 +131,14 @@ abbrev pub show_line : Reading → List (List ℕ) → Option Reading
 show_line r (word ∷ []) = opened_at (closed_up r) (address_of word)
 show_line r others = None
 
--- an entry joins the block. A destination that is there is refused
+-- an entry joins the block. It is refused if its destination is there already
 abbrev pub with_entry : Block → Option (ℕ × Row) → Option Block
 with_entry b None = None
 with_entry b (Some e) =
     if is_some (row_in b.rows e.0) then None
     else Some (record b { rows = insert_entry nat_cmp b.rows e.0 e.1 })
 
--- a line of the block; what isn't an entry is passed over
+-- a line of the block, which is passed over if it isn't an entry
 abbrev pub inner_line : Block → List ℕ → Option Block
 inner_line b line =
     if bytes_eq (take 8 line) (codes "  entry ")
@@ -152,7 +152,7 @@ other_line r (Some b) line =
     then option_map (λ c. record r { block = Some c }) (inner_line b line)
     else Some (closed_up r)
 
--- by the first word of the line
+-- a line by its first word
 abbrev pub line_by : Reading → List ℕ → List (List ℕ) → Option Reading
 line_by r line [] = Some r
 line_by r line (word ∷ words) =

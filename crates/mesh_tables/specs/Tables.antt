@@ -1,5 +1,5 @@
--- Tables as what they answer: their edges, their cycles, and when they are sound. Nodes and
--- destinations are addresses.
+-- Tables as functions, their edges and cycles, and when they are sound. Nodes and destinations are
+-- addresses.
 use Rattle.std.specs.Prelude.{◌≡◌, ◌≢◌, ℕ, ◌<◌, ◌≤◌, ◌⊎◌, Bool, false, List, [], ◌∷◌, Option, Some, None, ⊤}
 use Rattle.std.specs.FinSet as sets
 use Rattle.aodv_model.specs.declared.entry.Entry.{Entry}
@@ -8,11 +8,11 @@ use Rattle.aodv_model.specs.Quality.{is_better}
 use Rattle.mesh_tables.specs.declared.row.Row.{Row}
 use Rattle.mesh_tables.specs.declared.search.FailingEdge.{FailingEdge}
 
--- the entry of x for d, where x was shown and has one
+-- the entry of x for d, if x was shown and has one
 abbrev pub Tables : Type 0
 Tables = ℕ → ℕ → Option Row
 
--- the entry that a row shows, with no precursors
+-- the definitions' entry for a row, without precursors
 abbrev pub entry_of : Row → Entry
 entry_of r = record {
   dsn = r.dsn;
@@ -35,19 +35,19 @@ pub record Edge (t : Tables) (d x y : ℕ) : Type 0 where
   pub valid : row.flag ≡ Val
   pub next : row.next ≡ y
 
--- the list's neighbours are edges for d
+-- from each node of the list to the next one there is an edge for d
 abbrev pub IsWalk : Tables → ℕ → List ℕ → Type 0
 IsWalk t d [] = ⊤
 IsWalk t d (x ∷ []) = ⊤
 IsWalk t d (x ∷ (y ∷ ys)) = Edge t d x y × IsWalk t d (y ∷ ys)
 
--- the last of x and the others
+-- the last node of x and then the others
 abbrev pub last : ℕ → List ℕ → ℕ
 last x [] = x
 last x (y ∷ ys) = last y ys
 
--- a walk of two or more nodes, the last of which is the first: valid next hops for d lead back to
--- where they began
+-- a walk of two or more nodes that ends at its first node: valid next hops for d lead back to where
+-- they began
 pub record Cycle (t : Tables) (d : ℕ) : Type 0 where
   pub first : ℕ
   pub second : ℕ
@@ -69,12 +69,13 @@ pub record Fails (t : Tables) (d x y : ℕ) : Type 0 where
 abbrev pub IsSound : Tables → Type 0
 IsSound t = (d x y : ℕ) → ¬ (Fails t d x y)
 
--- it fails, and each other that does has a greater destination, or the same and no lesser node
+-- this edge fails, and each edge that fails has a greater destination, or the same destination and
+-- no lesser node
 pub record IsFirstFailing (t : Tables) (e : FailingEdge) : Type 0 where
   pub fails : Fails t e.dest e.node e.next
   pub first : (d x y : ℕ) → Fails t d x y → (e.dest < d) ⊎ ((e.dest ≡ d) × (e.node ≤ x))
 
--- the first edge that fails, or none where the tables are sound
+-- the first edge that fails; None if the tables are sound
 abbrev pub IsFirstFault : Tables → Option FailingEdge → Type 0
 IsFirstFault t None = IsSound t
 IsFirstFault t (Some e) = IsFirstFailing t e

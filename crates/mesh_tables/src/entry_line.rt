@@ -77,14 +77,14 @@ fn are_addresses(word: &[u8]) -> bool
     }
 }
 
-// Precursors.
+// A list of precursors: `-`, or addresses joined by commas.
 fn is_list(word: &[u8]) -> bool
     ensures { result ≡ printed.is_list word.now }
 {
     word == b"-".as_slice() || are_addresses(word)
 }
 
-// The entry that these words say, for a destination beside them.
+// The entry that these words give.
 #[tactic(auto, unfolding(crate::specs::Printed::row_of))]
 fn row_of(dsn: &[u8], dsk: &[u8], val: &[u8], count: &[u8], hop: &[u8]) -> Option<Row>
     ensures { result ≡ printed.row_of dsn.now dsk.now val.now count.now hop.now }
@@ -103,7 +103,7 @@ fn row_of(dsn: &[u8], dsk: &[u8], val: &[u8], count: &[u8], hop: &[u8]) -> Optio
     })
 }
 
-// A word, and what stands after the space behind it.
+// The first word of a text, and what follows the space after it. None if there is no space.
 fn word(text: &[u8]) -> Option<(&[u8], &[u8])>
     ensures some { IfSome result (λ r. parts 32 text.now ≡ r.0.now ∷ parts 32 r.1.now) }
     ensures none { IfNone result (parts 32 text.now ≡ text.now ∷ []) }
@@ -114,7 +114,7 @@ fn word(text: &[u8]) -> Option<(&[u8], &[u8])>
     }
 }
 
-// The seven words of a text.
+// The seven words of an entry line, after `  entry `.
 #[derive(Clone, Copy)]
 struct Words<'a> {
     dest: &'a [u8],
@@ -127,7 +127,7 @@ struct Words<'a> {
 }
 
 impl<'a> Words<'a> {
-    // The words of a text that has seven.
+    // The words of a text that has exactly seven.
     fn of(text: &'a [u8]) -> Option<Words<'a>>
         ensures some { IfSome result (λ w. parts 32 text.now ≡ words_in w) }
         ensures none { IfNone result (printed.entry_in (parts 32 text.now) ≡ None) }
@@ -153,7 +153,7 @@ impl<'a> Words<'a> {
     }
 }
 
-/// Reads what stands after `  entry `: a destination and its entry. None is any other text.
+/// Reads what follows `  entry `: a destination and its entry. None for any other text.
 #[tactic(auto, unfolding(crate::specs::Printed::entry_in))]
 pub fn parse_entry(text: &[u8]) -> Option<(u32, Row)>
     ensures { result ≡ printed.entry_in (parts 32 text.now) }

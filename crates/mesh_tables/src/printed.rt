@@ -18,12 +18,12 @@ use thiserror::Error;
 /// Why a line isn't read.
 #[derive(Clone, Copy, Debug, PartialEq, Eq, Error)]
 pub enum ReadError {
-    /// The line has the first word `show` and isn't `show ADDR`, or is the `show` of a node past
-    /// the most that a mesh may have; or it stands in a block, begins with `  entry ` and isn't an
-    /// entry line, or repeats a destination of the block.
+    /// The line's first word is `show`, but the line isn't `show ADDR` or shows one node more than
+    /// a mesh may have; or the line is in a block and begins with `  entry `, but isn't an entry
+    /// line or repeats a destination of the block.
     #[error("the line is refused")]
     BadLine,
-    /// Memory was asked for and not found.
+    /// Memory ran out.
     #[error("no memory for a table")]
     NoMemory,
 }
@@ -38,7 +38,7 @@ pub struct OpenBlock {
     pub rows: Table,
 }
 
-/// The tables that the lines read so far show. They take memory for each entry that is shown.
+/// The tables that the lines read so far show. Memory is taken for each entry that is shown.
 #[derive(Drop)]
 pub struct PrintedTables {
     alloc: Global,
@@ -70,7 +70,7 @@ fn is_show(word: &[u8]) -> bool
     word == b"show".as_slice()
 }
 
-// A table takes the place of an earlier one of its node.
+// Puts a node's table in the place of the node's earlier one, if there is one.
 fn put_table(closed: &mut BTreeMap<u32, Table>, node: u32, rows: Table) -> Result<(), NoMemory>
     ensures put { OnOk result (shown_in closed.new.entries
         ≡ insert_entry nat_cmp (shown_in closed.old.entries) node rows.entries) }
@@ -84,7 +84,7 @@ fn put_table(closed: &mut BTreeMap<u32, Table>, node: u32, rows: Table) -> Resul
     }
 }
 
-// The node was shown, or there is room for one more.
+// Whether a block of this node is closed, or there is room for one more node.
 fn has_room(closed: &BTreeMap<u32, Table>, x: u32) -> bool
     ensures { result ≡ (is_some (printed.table_in (shown_in closed.now.entries) x)
         || nat_lt (length (shown_in closed.now.entries)) MOST_NODES) }
@@ -109,7 +109,7 @@ fn add_row(block: &mut OpenBlock, d: u32, row: Row) -> Result<(), ReadError>
     }
 }
 
-// A line of a block.
+// Reads a line of a block.
 fn read_inner(block: &mut OpenBlock, line: &[u8]) -> Result<(), ReadError>
     ensures done { OnOk result (printed.inner_line (block_in block.old) line.now
         ≡ Some (block_in block.new)) }
@@ -127,7 +127,7 @@ fn read_inner(block: &mut OpenBlock, line: &[u8]) -> Result<(), ReadError>
 }
 
 impl PrintedTables {
-    /// Nothing was read. No memory is taken yet.
+    /// Nothing is read yet, and no memory taken.
     pub fn new(alloc: Global) -> PrintedTables
         ensures { result ≡ printed.nothing_read }
     {
@@ -146,15 +146,15 @@ impl PrintedTables {
         self.lines
     }
 
-    /// How many nodes were shown whose blocks are closed.
+    /// For how many nodes a block is closed.
     pub fn nodes(&self) -> usize
         ensures { result ≡ length self.now.closed }
     {
         self.closed.len()
     }
 
-    /// Closes the block that is open: its table takes the place of an earlier one of its node.
-    /// Where memory runs out the table is lost.
+    /// Closes the open block, if there is one: its table takes the place of the node's earlier one.
+    /// If memory runs out, the table is lost.
     pub fn close(&mut self) -> Result<(), NoMemory>
         ensures { OnOk result (self.new ≡ printed.closed_up self.old) }
     {
@@ -164,7 +164,7 @@ impl PrintedTables {
         }
     }
 
-    // Opens a block of x.
+    // Closes the open block, if there is one, and opens one of x.
     fn show(&mut self, x: u32) -> Result<(), ReadError>
         ensures done { OnOk result
             (printed.opened_at (printed.closed_up self.old) (Some x) ≡ Some self.new) }
@@ -185,7 +185,7 @@ impl PrintedTables {
         Ok(())
     }
 
-    // The words after `show`.
+    // Reads the words after `show`.
     fn read_show(&mut self, words: Option<&[u8]>) -> Result<(), ReadError>
         ensures done { OnOk result
             (printed.show_line self.old (rest_parts 32 words.entry) ≡ Some self.new) }
@@ -205,7 +205,7 @@ impl PrintedTables {
         }
     }
 
-    // A line whose first word isn't `show`.
+    // Reads a line whose first word isn't `show`.
     fn read_other(&mut self, line: &[u8]) -> Result<(), ReadError>
         requires { size_of self.old.closed + block_size self.old.block < self.old.lines }
         ensures done { OnOk result
@@ -226,7 +226,7 @@ impl PrintedTables {
         }
     }
 
-    /// Reads one more line. After an error nothing is said of the tables.
+    /// Reads one more line. After an error nothing is known of the tables.
     #[tactic(auto, using(crate::proofs::Lines::by_show, crate::proofs::Lines::by_other))]
     pub fn read(&mut self, line: &[u8]) -> Result<(), ReadError>
         requires { self.old.lines < most_lines }

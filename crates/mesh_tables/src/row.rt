@@ -5,7 +5,7 @@ ghost use Rattle.mesh_tables.specs.Tables.{entry_of, is_better_row};
 use aodv_model::{Entry, Flag, Known, better};
 use mesh_base::NodeSet;
 
-/// An entry of a printed table. Its precursors are not kept: no cycle depends on them.
+/// An entry of a printed table. Its precursors aren't kept: no cycle depends on them.
 #[derive(Clone, Copy, PartialEq, Eq)]
 pub struct Row {
     /// The destination's sequence number.
@@ -33,7 +33,7 @@ fn entry_of(row: &Row) -> Entry
     }
 }
 
-/// Whether the first is better than the second, by the quality of entries.
+/// Whether the first entry is better than the second.
 pub fn is_better_row(first: &Row, second: &Row) -> bool
     ensures { result ≡ is_better_row first.now second.now }
 {

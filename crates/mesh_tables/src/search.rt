@@ -10,8 +10,8 @@ use crate::row::{Row, is_better_row};
 use aodv_model::Flag;
 use std::collections::BTreeMap;
 
-/// An edge whose next hop has a valid entry that isn't better: the destination, the node and its
-/// next hop, as addresses.
+/// An edge whose next hop isn't the destination and has a valid entry that isn't better: the
+/// destination, the node and the node's next hop, as addresses.
 #[derive(Clone, Copy, PartialEq, Eq)]
 pub struct FailingEdge {
     pub dest: u32,
@@ -27,7 +27,7 @@ fn entry_at(closed: &BTreeMap<u32, Table>, x: u32, d: u32) -> Option<Row>
     rows.get(&d).copied()
 }
 
-// The next hop of x's entry for d, where the edge fails.
+// The next hop of x's entry for d, if the edge fails.
 #[tactic(auto, unfolding(crate::specs::Search::failing_next))]
 fn failing_next(closed: &BTreeMap<u32, Table>, x: u32, d: u32, row: &Row) -> Option<u32>
     ensures { result ≡ search.failing_next (tables_of (shown_in closed.now.entries)) x d row.now }
@@ -43,7 +43,7 @@ fn failing_next(closed: &BTreeMap<u32, Table>, x: u32, d: u32, row: &Row) -> Opt
     }
 }
 
-// The lesser of what was found and an edge that fails.
+// The lesser of the edge found so far and one that fails, if there is one with this next hop.
 fn lesser(best: Option<FailingEdge>, d: u32, x: u32, next: Option<u32>) -> Option<FailingEdge>
     ensures { result ≡ search.lesser best d x next }
 {
@@ -67,7 +67,7 @@ fn lesser(best: Option<FailingEdge>, d: u32, x: u32, next: Option<u32>) -> Optio
     }
 }
 
-// The least of what was found and the failing edges of x.
+// The least of the edge found so far and the failing edges of x.
 fn search_rows(
     closed: &BTreeMap<u32, Table>,
     x: u32,
@@ -126,9 +126,9 @@ fn count_all(closed: &BTreeMap<u32, Table>) -> u64
 }
 
 impl PrintedTables {
-    /// The first edge that fails, by rising destination and then by rising node, of the tables
-    /// whose blocks are closed: None where they are sound, and then no destination has a cycle in
-    /// them. Each entry costs one look-up.
+    /// The first edge that fails, by rising destination and then by rising node, in the tables
+    /// whose blocks are closed. None if they are sound; then no destination has a cycle in them.
+    /// Each entry costs at most one look-up of its next hop's entry.
     pub fn first_failing(&self) -> Option<FailingEdge>
         ensures first { IsFirstFault (tables_of self.now.closed) result }
         ensures acyclic { IfNone result ((d : ℕ) → ¬ (Cycle (tables_of self.now.closed) d)) }
@@ -136,7 +136,7 @@ impl PrintedTables {
         first_in(&self.closed)
     }
 
-    /// How many edges the tables have whose blocks are closed, of all destinations.
+    /// How many edges the tables whose blocks are closed have, for all destinations together.
     pub fn edges(&self) -> u64
         ensures { result ≡ edges_in self.now.closed }
     {

@@ -1,5 +1,5 @@
-//! Lists of bytes, with ample memory. Each list stands in a function of its own, since every way
-//! out of its owner ends it.
+//! Lists of bytes, with ample memory. Each list is in a function of its own, since it is dropped at
+//! every way out of its owner.
 ghost use Rattle.std.specs.Prelude.{◌≤◌, length};
 
 use mesh_base::{Bytes, NoMemory, Room};
@@ -11,7 +11,7 @@ fn is_copied(alloc: Global, bytes: &[u8]) -> Result<bool, NoMemory> {
     Ok(copy.as_slice() == bytes)
 }
 
-// Whether room for so many takes these, and they stay where the rest of the room is given back.
+// Whether room for `most` bytes takes these, and they stay when the rest of the room is given back.
 fn is_filled(alloc: Global, most: usize, bytes: &[u8]) -> Result<bool, NoMemory>
     requires { length bytes.now ≤ most }
 {

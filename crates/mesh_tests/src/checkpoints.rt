@@ -1,4 +1,4 @@
-//! Checkpoints written out byte for byte. What else a checkpoint may be refused for stands in
+//! Checkpoints written out byte for byte. The other reasons to refuse a checkpoint are tried in
 //! checks/cases/mesh_state.
 use mesh_checkpoint::validate;
 use mesh_load::{StateError, load};
@@ -13,8 +13,8 @@ const EMPTY: [u8; 68] = [
     0, 0, 0, 0, 0, 0, 0, 0, 0,
 ];
 
-/// Two linked nodes, 10.0.0.1 and 10.0.0.2. Node 1 has a route to node 0 with number 5, and so has
-/// node 0, by node 1.
+/// Two linked nodes, 10.0.0.1 and 10.0.0.2. Node 1 has a route to node 0 with number 5, and node 0
+/// has one to itself with that number, by node 1.
 const TWO: [u8; 182] = [
     0x41, 0x57, 0x4e, 0x31, 0, 0, 0, 174, //
     0, //
@@ -48,7 +48,7 @@ fn sizes_of(at: &State<World>) -> (usize, Option<u64>) {
     (at.mesh().len(), steps)
 }
 
-// The sizes of the state that a checkpoint means.
+// The sizes of the state whose checkpoint this is.
 fn loaded(alloc: Global, bytes: &[u8]) -> Result<(usize, Option<u64>), StateError> {
     match load(alloc, bytes) {
         Ok(at) => Ok(sizes_of(&at)),

@@ -2,7 +2,7 @@
 use aodv_model::{Dests, Entry, Flag, Known, better, inc, nsqn};
 use mesh_base::NodeSet;
 
-// Whether node 2 has the number 7, and no other has one.
+// Whether node 2 has the number 7, and no other node has one.
 fn has_one(dests: &Dests) -> bool {
     matches!(dests.number(2), Some(7))
         && dests.number(3).is_none()
@@ -38,7 +38,8 @@ fn a_number_is_raised_unless_it_is_0_or_the_last(rt: HostRuntime) {
     assert!(rt; inc(4294967295).is_none());
 }
 
-// Whether an entry that broke with number 6 and 3 hops is as good as one with number 5.
+// Whether an entry with number 6 and 3 hops, which is broken, is as good as a valid one with number
+// 5 and 3 hops.
 fn is_as_good_as_before(broken: &Entry) -> bool {
     nsqn(broken) == 5
         && better(&entry(5, Flag::Val, 2), broken)

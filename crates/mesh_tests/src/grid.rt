@@ -1,4 +1,4 @@
-//! Lines about places, and the changes that follow.
+//! Lines about places, and the changes of links that follow from them.
 use crate::lines::two_nodes;
 use mesh_base::{Event, MOST_NODES, Mesh, NodeSet};
 use mesh_grammar::{LineFault, Span};
@@ -59,7 +59,8 @@ fn comes(places: &mut Places, mesh: &Mesh) -> bool {
     true
 }
 
-// Whether node 1 is linked to node 0 where it comes 100 from it, and not within a reach of 99.
+// Whether node 1 is linked to node 0 when it comes to a place 100 from it: within a reach of 100,
+// and not within one of 99.
 fn are_linked_at_100(places: &Places) -> bool {
     let near = NodeSet::new();
     let second = Placing {

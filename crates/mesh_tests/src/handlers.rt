@@ -18,7 +18,7 @@ use std::alloc::Global;
 use std::test::Fail;
 
 // What 10.0.0.1, which reaches 10.0.0.2 alone, casts for a route to 10.0.0.3, and what is cast
-// then.
+// afterwards.
 const ASKED: &[u8] = b"\x01\x08\0\0\0\0\0\x01\x0a\0\0\x03\0\0\0\0\x0a\0\0\x01\0\0\0\x02";
 
 const ASKED_ON: &[u8] = b"\x01\x08\0\x01\0\0\0\x01\x0a\0\0\x03\0\0\0\0\x0a\0\0\x01\0\0\0\x02";
@@ -28,7 +28,7 @@ const ANSWERED: &[u8] = b"\x02\0\0\0\x0a\0\0\x03\0\0\0\x01\x0a\0\0\x01\xff\xff\x
 const ANSWERED_ON: &[u8] = b"\x02\0\0\x01\x0a\0\0\x03\0\0\0\x01\x0a\0\0\x01\xff\xff\xff\xff";
 
 const DATUM: &[u8] = b"\x10\0\0\0\x0a\0\0\x03\x0a\0\0\x01hi";
-// The second node has no route to the third any more.
+// The second node no longer has a route to the third.
 const BROKEN: &[u8] = b"\x03\0\0\x01\x0a\0\0\x03\0\0\0\x02";
 
 fn opening<T: Table>(alloc: Global, table: T, mesh: &Mesh, me: usize) -> Result<Core<T>, NoMemory>
@@ -212,7 +212,7 @@ fn hears_an_error<T: Table>(
     Ok(Some(on_rerr(core, mesh, from, m, out)))
 }
 
-// A turn on these bytes. None where they are of no use, or a counter is full.
+// A turn with these bytes. None if they are of no use here, or a counter is full.
 fn hear<T: Table>(
     core: &mut Core<T>,
     mesh: &Mesh,
@@ -270,7 +270,7 @@ fn is_due(effect: Result<Option<Effect>, NoMemory>, out: &Packet, due: Due<'_>) 
     deed_of(effect) == deed && out.as_slice() == packet
 }
 
-// The nodes that reach this one, of three in a row.
+// The nodes in range of this one, of three in a row.
 fn beside(node: usize) -> NodeSet {
     let mut nodes = NodeSet::new();
     if node == 1 {
@@ -282,7 +282,7 @@ fn beside(node: usize) -> NodeSet {
     nodes
 }
 
-// Whether a node does what is due where it asks for a route to the third.
+// Whether a node does what is due when it asks for a route to the third.
 fn asks<T: Table>(core: &mut Core<T>, mesh: &Mesh, due: Due<'_>, out: &mut Packet) -> bool
     requires mesh { length mesh.now ≡ 3 }
     requires order { IsInOrder T.nodes T.entries (length mesh.now) core.old }
@@ -292,7 +292,7 @@ fn asks<T: Table>(core: &mut Core<T>, mesh: &Mesh, due: Due<'_>, out: &mut Packe
     is_due(effect, out, due)
 }
 
-// Whether a node does what is due where it sends to the third.
+// Whether a node does what is due when it sends to the third.
 fn sends<T: Table>(core: &mut Core<T>, mesh: &Mesh, due: Due<'_>, out: &mut Packet) -> bool
     requires mesh { length mesh.now ≡ 3 }
     requires order { IsInOrder T.nodes T.entries (length mesh.now) core.old }
@@ -303,7 +303,7 @@ fn sends<T: Table>(core: &mut Core<T>, mesh: &Mesh, due: Due<'_>, out: &mut Pack
     is_due(Ok(effect), out, due)
 }
 
-// Whether a node does what is due where it hears these bytes.
+// Whether a node does what is due when it hears these bytes.
 fn hears<T: Table>(
     core: &mut Core<T>,
     mesh: &Mesh,
@@ -320,7 +320,7 @@ fn hears<T: Table>(
     is_due(effect, out, due)
 }
 
-// The first of three nodes in a row asks for a route to the third, and hears of it: whether each
+// The first of three nodes in a row asks for a route to the third, and gets the reply: whether each
 // call does what is due.
 fn find<T: Table>(
     first: &mut Core<T>,
@@ -397,8 +397,8 @@ fn sends_one<T: Table>(
     Ok(found == [true; 6] && passed == [true; 3])
 }
 
-// The same of three nodes in a row, each with one of these tables. It only makes the nodes, since
-// each way out of a function that owns them ends all three.
+// As `sends_one`, with nodes that it makes, each with one of these tables. It only makes them,
+// since all three are dropped at each way out of a function that owns them.
 fn discovers<T: Table>(
     alloc: Global,
     one: T,
@@ -452,8 +452,8 @@ fn both_tables_cast_the_same_packets(rt: HostRuntime) -> Result<(), Fail> {
     Ok(())
 }
 
-// A node has a datum, hears of a route, hears that it is lost, and asks: whether it had room for
-// the datum, could send nothing without a route, and could lose its link at the end.
+// A node is given a datum, hears of a route, hears that the route is lost, and asks again: whether
+// it took the datum, could send nothing without a route, and could lose its link at the end.
 fn loses_its_route<T: Table>(
     alloc: Global,
     core: &mut Core<T>,

@@ -19,7 +19,7 @@ fn hear(inbox: &mut Inbox, from: usize) -> Result<(), NoMemory> {
     Ok(())
 }
 
-// Eight come, and the first of them goes after the second has come.
+// Eight items come, and the first is taken out after the second has come.
 fn keeps_seven(inbox: &mut Inbox) -> Result<bool, NoMemory> {
     let mut first = 0;
     for from in 1..9 {

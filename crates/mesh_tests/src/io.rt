@@ -1,6 +1,6 @@
-//! Each call that can find no memory, and the sizes of what passes through. The longest line of a
-//! printed text stands in checks/cases/mesh_check, and streams that the system fails are cases with
-//! a failing-stdin or a room.
+//! Each call that can run out of memory, and the sizes of what passes through. The longest line of
+//! a printed text is in checks/cases/mesh_check, and streams that the system fails are cases with a
+//! failing-stdin or a room.
 use crate::lines::source_of;
 use mesh_io::{
     Buffered, Failed, LineError, Lines, MemSink, MemSource, PutFault, ReservedBuffer, Source,
@@ -60,7 +60,7 @@ fn come<S: Source>(lines: &mut Lines<'_, S>, answers: &[Answer<'_>]) -> bool {
     true
 }
 
-/// The lines from a source that gives 7 bytes a call and fails at its second.
+/// The answers over a source that gives 7 bytes a call and fails at its second call.
 const ANSWERS: [Answer<'static>; 6] = [
     Err(LineError::ReadFault),
     Ok(Some(b"node 10.0.0.1")),

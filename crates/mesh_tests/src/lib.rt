@@ -1,7 +1,7 @@
 //! Tests of the libraries, by their public calls: packets that other implementations sent, worked
-//! rows, lines that are refused, and each call that can want memory, with ample memory. They stand
-//! in a crate of their own, since a crate that has tests is proved once more with them. Runs of
-//! whole schedules, whose source and sink don't fail, stand in checks/cases: there they need no
+//! rows, lines that are refused, and each call that can run out of memory, with ample memory. They
+//! are in a crate of their own, since a crate that has tests is proved once more with them. Runs of
+//! whole schedules, whose source and sink don't fail, are in checks/cases: there they need no
 //! proof.
 #![tactic(auto)]
 

@@ -13,7 +13,7 @@ pub(crate) fn two_nodes() -> Result<Mesh, MeshError> {
     Ok(mesh)
 }
 
-/// Gives these bytes, at most `most` of them at each call, and fails at the calls that are planned.
+/// A source that gives these bytes, at most `most` of them at each call, and fails at these calls.
 pub(crate) fn source_of(
     alloc: Global,
     bytes: &[u8],

@@ -82,7 +82,7 @@ fn calls_fail_by_plan(rt: HostRuntime) -> Result<(), Fail> {
     Ok(())
 }
 
-// Whether it gives its datagram, and then takes each that is sent.
+// Whether the link gives its datagram, and then takes one that is sent.
 fn gives_one(link: &mut SureLink) -> bool
     requires { is_some (sure_port link.old) ≡ true }
 {

@@ -1,7 +1,7 @@
-//! What a turn of one of two nodes refuses. The way of a datum through a node stands in
-//! checks/cases/mesh_cli, as a_datum_goes_to_a_neighbour. Each call of a node stands in a function
-//! that is lent the node: what a call may answer would be gone through at each way out of one that
-//! owns it.
+//! What a turn of one of two nodes refuses. The way of a datum through a node is in
+//! checks/cases/mesh_cli, as a_datum_goes_to_a_neighbour. Each call of a node is in a function that
+//! borrows the node: in one that owns it, the proof would go through all that the call may answer
+//! at each way out.
 ghost use Rattle.std.specs.Prelude.{◌≡◌, length};
 
 use aodv_node::{Node, TurnError};
@@ -39,7 +39,7 @@ fn fault_of(node: &mut Node, mesh: &Mesh) -> Option<TurnError>
     }
 }
 
-// Whether a node refuses a packet of node 1 so, and then has so many packets left.
+// Whether a node refuses a packet of node 1 for this reason, and then has `left` packets left.
 fn refuses(
     node: &mut Node,
     alloc: Global,

@@ -1,5 +1,5 @@
 //! Packets that another implementation has sent, the AODV model of ns-3.37 with 16 moving nodes,
-//! and what the formats make of each.
+//! and how the formats read each.
 ghost use Rattle.std.specs.Prelude.{◌≤◌};
 
 use aodv_wire::{Message, RerrView, read};
@@ -9,7 +9,7 @@ use std::fmt::{Display, Formatter, Result as Written, Write};
 use std::test::Fail;
 
 // In each line the bytes of a packet in hexadecimal digits, and what they are: a message with its
-// fields, or why they are none. An address is written as its number: 10.0.0.1 is 167772161.
+// fields, or why they are no message. An address is written as its number: 10.0.0.1 is 167772161.
 const PACKETS: &str = "\
 01280000000000010a000010000000000a00000100000001 OutsideProfile
 01280001000000020a000010000000000a00000100000002 OutsideProfile
@@ -213,7 +213,7 @@ fn write_error<W: Write>(f: &mut Formatter<W>, pairs: &RerrView<'_>) -> Written 
     Ok(())
 }
 
-// What bytes are, in words.
+// What these bytes are, in words.
 #[derive(Drop)]
 struct Words<'a>(&'a [u8]);
 

@@ -3,7 +3,7 @@ use mesh_base::{Addr, LineBuf};
 use mesh_grammar::Span;
 use mesh_peers::{LineFault, NodeLine, Peers, parse_node_line, print_node_line};
 
-// A line that names a node, done.
+// Does a line that names a node. False if the line doesn't.
 fn join(peers: &mut Peers, line: &[u8]) -> bool {
     match parse_node_line(line, peers, false) {
         Ok(NodeLine::Own { addr, first }) => peers.set_self(addr, first),
@@ -13,7 +13,7 @@ fn join(peers: &mut Peers, line: &[u8]) -> bool {
     true
 }
 
-// The peer at port 7 stands below the node itself, and the one at port 9 above it.
+// The node itself, a peer with a lower address at port 7, and one with a higher address at port 9.
 fn three(peers: &mut Peers) -> bool {
     join(peers, b"self 10.0.0.2 sn 5")
         && join(peers, b"peer 10.0.0.1 7")
@@ -58,7 +58,7 @@ const EARLY: [(&[u8], LineFault); 7] = [
     (b"up 10.0.0.1", LineFault::Early),
 ];
 
-/// Lines once the three are named, and their first faults.
+/// Lines after the three nodes were named, and their first faults.
 const NAMED: [(&[u8], LineFault); 6] = [
     (
         b"self 10.0.0.9",
@@ -80,7 +80,7 @@ const NAMED: [(&[u8], LineFault); 6] = [
     (b"show 10.0.0.2", LineFault::Count),
 ];
 
-/// A line once the run has started, and its first fault.
+/// A line after the run has started, and its first fault.
 const STARTED: [(&[u8], LineFault); 1] = [(b"peer 10.0.0.4 1", LineFault::Late)];
 
 fn are_refused(cases: &[(&[u8], LineFault)], peers: &Peers, started: bool) -> bool {
@@ -105,7 +105,7 @@ fn the_first_fault_is_told(rt: HostRuntime) {
     assert!(rt; faults_are_told(&mut peers));
 }
 
-/// Lines once the three are named, and what they are written back as.
+/// Lines after the three nodes were named, and how they are written back.
 const WRITTEN: [(&[u8], &[u8]); 6] = [
     (b"peer 10.0.0.4 65535", b"peer 10.0.0.4 65535"),
     (b"data 10.0.0.1  a  b", b"data 10.0.0.1  a  b"),

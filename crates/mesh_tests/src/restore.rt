@@ -9,8 +9,9 @@ use std::alloc::Global;
 /// Two nodes, 10.0.0.1 and 10.0.0.2.
 const MESH: [u8; 18] = [0, 2, 10, 0, 0, 1, 0, 0, 0, 1, 10, 0, 0, 2, 0, 0, 0, 9];
 
-/// Node 0: its number is 7; a route to node 1, used by node 1; the request 0 3 was seen; the datum
-/// `hi` waits for node 1 and needs no request; a packet of one byte from node 1 waits.
+/// Node 0: its number is 7; it has a route to node 1, whose precursor is node 1; it has seen
+/// request 3 of node 0; the datum `hi` waits for node 1 and needs no request; a packet of one byte
+/// from node 1 waits. Five bytes follow the node.
 const NODE: [u8; 59] = [
     0, 0, 0, 7, //
     0, 1, 0, 1, 0, 0, 0, 5, 1, 1, 1, 0, 1, 0, 1, 0, 1, //
@@ -20,7 +21,7 @@ const NODE: [u8; 59] = [
     77, 77, 77, 77, 77,
 ];
 
-/// A link that has stood, the next id 5, and a copy 3 of one byte.
+/// A link that has stood, the next id 5, and copy 3, of one byte. One byte follows them.
 const AIR: [u8; 35] = [
     0, 1, 0, 0, 0, 1, 0, //
     0, 0, 0, 0, 0, 0, 0, 5, //
@@ -40,7 +41,7 @@ fn a_mesh_is_read(rt: HostRuntime) {
     assert!(rt; reads_the_mesh());
 }
 
-// The number of a node that was made of its parts.
+// The sequence number of a node that was made from its parts.
 fn sn_of(made: &Result<Node, Unfit>) -> Result<u32, Unfit> {
     match made {
         Ok(node) => Ok(node.sn()),
@@ -48,7 +49,7 @@ fn sn_of(made: &Result<Node, Unfit>) -> Result<u32, Unfit> {
     }
 }
 
-// The number of node 0 in these bytes, and how many bytes follow it.
+// The sequence number of node 0 in these bytes, and how many bytes follow the node.
 fn node_read(
     alloc: Global,
     mesh: &Mesh,

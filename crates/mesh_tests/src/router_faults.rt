@@ -85,7 +85,7 @@ fn hostile_datagrams_are_dropped(rt: HostRuntime) -> Result<(), Fail> {
     Ok(())
 }
 
-// It is received from five times, and sends once.
+// The link is opened, received from five times, and sent over once.
 #[test]
 fn each_call_of_the_link_can_fail(rt: HostRuntime) -> Result<(), Fail> {
     for call in 2..8 {

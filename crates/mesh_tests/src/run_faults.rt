@@ -1,5 +1,5 @@
-//! Runs of schedules over sources that give few bytes a call and sinks that take few, and over such
-//! that fail at one call.
+//! Runs of schedules over sources that give few bytes a call and sinks that take few, and over
+//! sources and sinks that fail at one call.
 ghost use Rattle.std.specs.Prelude.{◌≡◌, ◌≤◌, ◌<◌};
 
 use mesh_base::{Bytes, Variant};
@@ -9,7 +9,7 @@ use mesh_world::World;
 use std::alloc::Global;
 use std::test::Fail;
 
-// More than any schedule or text here.
+// More bytes than any schedule or text here has.
 const WHOLE: usize = 4096;
 
 const DATUM: &[u8] = b"\
@@ -116,8 +116,8 @@ const ROUTE_TEXT: &[u8] = b"\
     \x20\x20arrived 2\n\
     done events 20 idle 0 given 1 delivered 1 waiting 0 queued 0 flying 0 lost 0\n";
 
-// How a source gives, or a sink takes: so many bytes a call, and no byte at these calls, which are
-// counted from 1.
+// How a source gives, or a sink takes: at most this many bytes a call, and none at the calls that
+// fail, which are counted from 1.
 #[derive(Clone, Copy)]
 struct Way<'c> {
     most: usize,
@@ -132,8 +132,8 @@ fn few(most: usize) -> Way<'static>
     Way { most, fails: &[] }
 }
 
-// The call. It stands alone, since what it promises would be gone through at each way out of a
-// function that owns what it is lent.
+// The run. It is a call of its own: in a function that owns what it borrows, the proof would go
+// through all that the run promises at each way out.
 fn run_from(alloc: Global, input: &mut MemSource, out: &mut MemSink) -> Status {
     run::<World, _, _>(alloc, false, Variant::Base, input, out)
 }
@@ -155,7 +155,7 @@ fn ran(
     Ok((status, out))
 }
 
-// Whether the run with a route is told whole.
+// Whether the whole text of the run with a route is written.
 fn is_route_told(alloc: Global, read: Way<'_>, write: Way<'_>) -> Result<bool, Fail>
     requires read { 0 < read.most }
     requires write { 0 < write.most }
@@ -164,7 +164,7 @@ fn is_route_told(alloc: Global, read: Way<'_>, write: Way<'_>) -> Result<bool, F
     Ok(status == Status::Done && out.held() == ROUTE_TEXT)
 }
 
-// Whether the run with a datum answers this, and so many bytes of its text are told.
+// Whether the run with a datum answers this, and this many bytes of its text are written.
 fn is_datum_told(
     alloc: Global,
     read: Way<'_>,
@@ -187,7 +187,7 @@ fn few_bytes_a_call_make_no_difference(rt: HostRuntime) -> Result<(), Fail> {
     Ok(())
 }
 
-// How long the text is of the lines that are complete among so many bytes of DATUM.
+// How long the text of the lines is that are complete in this many bytes of DATUM.
 fn text_read(bytes: usize) -> usize
     ensures { result ≤ 112 }
 {
@@ -199,8 +199,8 @@ fn text_read(bytes: usize) -> usize
     }
 }
 
-// Whether a source that gives seven bytes a call, and fails at this one, has this answer, with so
-// much of the text told.
+// Whether a run over a source that gives seven bytes a call, and fails at this one, has this
+// answer, with this much of the text written.
 fn reads_until(alloc: Global, call: usize, status: Status, told: usize) -> Result<bool, Fail>
     requires { told ≤ 188 }
 {
@@ -222,7 +222,7 @@ fn a_failed_read_leaves_the_text_of_the_lines_before_it(rt: HostRuntime) -> Resu
     Ok(())
 }
 
-// How long the text is that so many calls have put, of which each takes five bytes. What is said of
+// How long the text is that this many calls have put, each of which takes five bytes. The text of
 // the lines is handed on before the end of the input is read, and the last line after it.
 fn text_put(calls: usize) -> usize
     requires { calls < 39 }
@@ -234,8 +234,8 @@ fn text_put(calls: usize) -> usize
     }
 }
 
-// Whether a sink that takes five bytes a call, and fails at this one, has this answer, with so much
-// of the text told.
+// Whether a run over a sink that takes five bytes a call, and fails at this one, has this answer,
+// with this much of the text written.
 fn writes_until(alloc: Global, call: usize, status: Status, told: usize) -> Result<bool, Fail>
     requires { told ≤ 188 }
 {

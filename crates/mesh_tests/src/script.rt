@@ -61,7 +61,7 @@ fn the_first_fault_is_told(rt: HostRuntime) -> Result<(), Fail> {
     Ok(())
 }
 
-/// Lines of a mesh of two nodes, and what they are written back as.
+/// Lines of a mesh of two nodes, and how they are written back.
 const WRITTEN: [(&[u8], &[u8]); 4] = [
     (b"node 10.0.0.3", b"node 10.0.0.3 sn 1"),
     (

@@ -8,7 +8,7 @@ use mesh_world::Steps;
 use std::alloc::Global;
 use std::test::Fail;
 
-// Whether this is an event of a mesh of so many nodes.
+// Whether this is an event of a mesh of this many nodes.
 fn is_event(e: &Event<'_>, nodes: usize) -> bool
     ensures { IsTrue result → IsEvent nodes (event_of e.now) }
 {
@@ -27,7 +27,7 @@ fn is_event(e: &Event<'_>, nodes: usize) -> bool
     }
 }
 
-/// One event, with ample memory and no counter near its end.
+/// Does one event, with ample memory and no counter near its greatest value.
 pub(crate) fn advance<S: Steps>(world: &mut S, alloc: Global, e: &Event<'_>) -> Result<Done, Fail> {
     if !is_event(e, world.world().mesh().len()) || world.world().steps() >= 1000 {
         return Err(Fail::new("no event of this world"));
@@ -39,7 +39,7 @@ pub(crate) fn advance<S: Steps>(world: &mut S, alloc: Global, e: &Event<'_>) -> 
     }
 }
 
-/// These events, one after another.
+/// Does these events, one after another.
 pub(crate) fn advance_all<S: Steps>(
     world: &mut S,
     alloc: Global,

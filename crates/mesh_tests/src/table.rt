@@ -1,5 +1,5 @@
-//! What a table does with an entry that comes, and with a number that can't be raised: over both
-//! kinds of table.
+//! What a table does with a new entry, and with a number that can't be raised: over both kinds of
+//! table.
 ghost use Rattle.std.specs.Prelude.{◌≡◌, ◌<◌};
 ghost use Rattle.aodv_model.specs.declared.entry.Flag.TheVariants.{Val};
 
@@ -20,7 +20,7 @@ fn entry(dsn: u32, dsk: Known, flag: Flag, hops: u8, next: usize) -> Entry {
     }
 }
 
-// The entry, used by neighbour p.
+// The entry, with neighbour p as a precursor.
 fn used_by(e: Entry, p: usize) -> Entry
     requires { p < 256 }
 {
@@ -37,7 +37,7 @@ fn same(a: Option<Entry>, b: Option<Entry>) -> bool {
     }
 }
 
-// The entries of the table below that stand in more than one row.
+// The entries that are in more than one of the rows below.
 fn used() -> Entry {
     used_by(entry(5, Known::Kno, Flag::Val, 3, 1), 4)
 }
@@ -54,11 +54,12 @@ fn raised() -> Entry {
     entry(6, Known::Kno, Flag::Inv, 3, 1)
 }
 
-// What stands in a table, what comes, what stands there then, and whether that is new.
+// The entry in a table, the one that comes, the one that is there afterwards, and whether the table
+// has changed.
 type Case = (Option<Entry>, Entry, Entry, bool);
 
-// Whether the table says that it changed, the entry that is then there, and whether the destination
-// is valid.
+// Whether the table says that it changed, the entry that is there afterwards, and whether the
+// destination is valid.
 fn updated<T: Table>(
     table: &mut T,
     before: Option<Entry>,
@@ -124,8 +125,8 @@ fn cases() -> [Case; 8] {
 }
 
 // Whether a table with two entries by node 2, the later of them with the greatest number, has both
-// among the destinations by node 2 and none by node 3, and names the later where the numbers are
-// raised.
+// among the destinations by node 2 and none by node 3, and names the later when the numbers are to
+// be raised.
 fn names_the_later<T: Table>(table: &mut T) -> Result<bool, NoMemory>
     requires { T.nodes table.old ≡ 10 }
 {

@@ -1,5 +1,5 @@
-//! A trail of three nodes in a row. Its owner only makes it and lends it, since each way out of the
-//! owner ends it.
+//! A trail of three nodes in a row. Its owner only makes it and lends it, since it is dropped at
+//! each way out of the owner.
 use crate::steps::{advance_all, opening};
 use mesh_base::Event;
 use mesh_trail::Trail;

@@ -1,4 +1,4 @@
-//! Data that wait for a route, and the mark that one needs a request.
+//! Data that wait for a route, and the mark that a destination needs a request.
 ghost use Rattle.std.specs.Prelude.{◌≡◌, length};
 
 use aodv_waiting::Waiting;
@@ -25,7 +25,7 @@ fn drop_for_two(waiting: &mut Waiting)
     }
 }
 
-// A second datum comes after the mark was taken away: it is not there again.
+// A second datum comes after the mark was removed: whether the mark stays removed.
 fn keeps_the_mark(alloc: Global, waiting: &mut Waiting) -> Result<bool, NoMemory>
     requires { length waiting.old.rooms ≡ 3 }
     ensures { length waiting.new.rooms ≡ 3 }
@@ -36,7 +36,7 @@ fn keeps_the_mark(alloc: Global, waiting: &mut Waiting) -> Result<bool, NoMemory
     Ok(!waiting.needs_request(2) && waiting.count(2) == 2)
 }
 
-// Both data go, and a datum that comes then is marked.
+// Both data are dropped, and another comes: whether it is marked.
 fn marks_the_next(alloc: Global, waiting: &mut Waiting) -> Result<bool, NoMemory>
     requires { length waiting.old.rooms ≡ 3 }
 {

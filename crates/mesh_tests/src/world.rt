@@ -1,5 +1,5 @@
 //! A world of two nodes: a route is found, and a datum arrives. The world's owner only makes it and
-//! lends it, since each way out of the owner ends it.
+//! lends it, since it is dropped at each way out of the owner.
 use crate::steps::{advance, advance_all, opening};
 use mesh_base::{Done, Event};
 use mesh_world::{Steps, World};
@@ -53,7 +53,7 @@ fn delivers<S: Steps>(world: &mut S, alloc: Global) -> Result<bool, Fail> {
     Ok(matches!(&done, Done::Taken { effect, .. } if effect.deliver))
 }
 
-// Whether a route is found as soon as a datum waits for it.
+// Whether a request is due as soon as a datum waits, and a send as soon as the route is found.
 fn finds<S: Steps>(world: &mut S, alloc: Global) -> Result<bool, Fail> {
     advance_all(world, alloc, &BEGUN)?;
     let asks = matches!(due(world), (Some((0, 1)), None));

@@ -5,8 +5,8 @@ use Rattle.mesh_base.specs.Parts.{parts}
 use Rattle.mesh_model.specs.Accounts.{any, waiting, queued_data, in_flight}
 use Rattle.mesh_text.specs.Schedule.{RunState, world_of}
 
--- what was given or doubled was delivered, waits in a store or a queue, is in flight, or was
--- dropped
+-- as many data were given and doubled as were delivered, wait in stores and queues, are in flight,
+-- and were dropped
 abbrev pub IsBalanced : RunState → Type 0
 IsBalanced m =
     m.sums.given + m.sums.copied

@@ -1,5 +1,5 @@
 -- Part of what the headline says.
--- The text of what an event did. Each effect stands below its event, after two spaces.
+-- The text of what an event did. Its effects are the lines below the event, each after two spaces.
 use Rattle.std.specs.Prelude.{ℕ, ◌==◌, ◌&&◌, not, nat_le, List, [], ◌∷◌, ◌++◌, length, codes, if◌then◌else◌, Option, Some, None}
 use Rattle.std.specs.List.{flat_map}
 use Rattle.mesh_base.specs.Members.{NodeIds}
@@ -15,8 +15,8 @@ use Rattle.mesh_text.specs.Lines.{name_of, hex, hex_byte, event_words}
 
 -- ---- data
 
--- a byte of a datum: from the space to the tilde it stands for itself, but for the backslash; any
--- other is \x and its two digits
+-- a byte of a datum: from the space to the tilde it is written as itself, except for the backslash;
+-- any other byte is \x and its two hexadecimal digits
 abbrev pub shown_byte : ℕ → List ℕ
 shown_byte b =
     if nat_le 32 b && nat_le b 126 && not (b == 92) then b ∷ [] else codes "\\x" ++ hex_byte b
@@ -42,7 +42,7 @@ kind_text (Rreq m) = codes "rreq "
 kind_text (Rrep m) = codes "rrep "
 kind_text (Rerr dests) = codes "rerr "
 
--- at node x
+-- what node x took
 abbrev pub took_text : Nodes → ℕ → Took → List ℕ
 took_text mesh x (Own body) = line (codes "  took new " ++ name_of mesh x)
 took_text mesh x (Stored dest) = line (codes "  took new " ++ name_of mesh dest)
@@ -67,12 +67,12 @@ abbrev pub more_names : Nodes → List ℕ → List ℕ
 more_names mesh [] = []
 more_names mesh (x ∷ xs) = 44 ∷ name_of mesh x ++ more_names mesh xs
 
--- nodes, joined by commas; a hyphen where there is none
+-- nodes, joined by commas; a hyphen if there is none
 abbrev pub names : Nodes → List ℕ → List ℕ
 names mesh [] = codes "-"
 names mesh (x ∷ xs) = name_of mesh x ++ more_names mesh xs
 
--- the members of a set, by rising address
+-- the members of a set, in ascending order of address
 abbrev pub set_text : Nodes → NodeIds → List ℕ
 set_text mesh s = names mesh (members_below (length mesh) s)
 
@@ -88,7 +88,7 @@ cast_text mesh (Many s m) =
     line (codes "  sent many " ++ set_text mesh s ++ 32 ∷ hex (packet_of mesh m))
 cast_text mesh (All m) = line (codes "  sent all " ++ hex (packet_of mesh m))
 
--- the copies of a cast, by their numbers
+-- the copies of a cast, each with its id and receiver
 abbrev pub copies_text : Nodes → List Copy → List ℕ
 copies_text mesh [] = []
 copies_text mesh (c ∷ cs) =
@@ -101,7 +101,7 @@ sent_text mesh e copies =
 
 -- ---- events
 
--- a datum that node x took: delivered, dropped, or neither
+-- the fate of a datum that node x took: delivered, dropped, or neither
 abbrev pub datum_fate : Nodes → ℕ → Took → Effect → List ℕ
 datum_fate mesh x took e =
     (if e.deliver then delivery_text mesh x took else [])
@@ -120,12 +120,12 @@ world_effect_text mesh x (CopyLost c) =
 world_effect_text mesh x (CopyDoubled id to parcel) =
     line (label_number (codes "  copy ") id ++ 32 ∷ name_of mesh to)
 
--- what came of an event at node x. A refused event isn't written
+-- the outcome of an event at node x. A refused event isn't written
 abbrev pub outcome_text : Nodes → ℕ → Outcome → List ℕ
 outcome_text mesh x Idle = line (codes "  idle")
 outcome_text mesh x (worlds.Full node field) = []
 outcome_text mesh x (Next w world_effect) = world_effect_text mesh x world_effect
 
--- an event, and below it what came of it
+-- an event, and its outcome below it
 unfoldable pub outcome_lines : Nodes → Event → Outcome → List ℕ
 outcome_lines mesh e o = line (event_words mesh e) ++ outcome_text mesh (node_of e) o

@@ -13,7 +13,7 @@ use Rattle.mesh_grammar.specs.Forms.{Arguments, NoArgument, OneAddress, TwoAddre
 use Rattle.mesh_grammar.specs.Written.{line, label_number, command_text}
 use Rattle.mesh_text.specs.Schedule.{Sums, RunState, AcceptedLine, Nothing, NewNode, Does, Chooses, ShowsNode, ShowsRoute, ShowsFlight, world_of}
 
--- the address of a node, as it is written
+-- the written address of a node
 abbrev pub name_of : Nodes → ℕ → List ℕ
 name_of mesh i = dotted_decimal (addr_at mesh i)
 
@@ -58,7 +58,7 @@ event_command mesh (Double id) = command_line (codes "copy") (OneNumber id)
 unfoldable pub event_words : Nodes → Event → List ℕ
 event_words mesh e = text_of (event_command mesh e)
 
--- the words of an allowed line. A blank one is written as none
+-- the words of an allowed line. A blank line has none
 unfoldable pub words_of : Nodes → AcceptedLine → List ℕ
 words_of mesh Nothing = []
 words_of mesh (NewNode address first) = command_text (codes "node") (NumberedAddress address first)
@@ -84,13 +84,13 @@ hex bytes = flat_map hex_byte bytes
 
 -- ---- the last line of a run
 
--- how many data packets were doubled, where any were
+-- how many data packets were doubled, if any were
 abbrev pub copied_words : ℕ → List ℕ
 copied_words zero = []
 copied_words (suc n) = label_number (codes " copied ") (suc n)
 
--- of a run that read its whole input: what was counted, and the data in stores, in queues and in
--- flight
+-- the last line of a run that read its whole input: what was counted, and the data in stores, in
+-- queues and in flight
 unfoldable pub summary_text : Sums → ℕ → ℕ → ℕ → List ℕ
 summary_text s waits queues flies =
     label_number (codes "done events ") s.events ++ label_number (codes " idle ") s.idle
@@ -112,7 +112,7 @@ field_text field.Hops = codes "hops"
 field_text field.Number = codes "number"
 field_text field.Id = codes "id"
 
--- of a run that an event of this line has ended, since a counter is full
+-- the last line of a run that an event of this line has ended, because a counter is full
 unfoldable pub full_line : Nodes → ℕ → Event → full.Counter → List ℕ
 full_line mesh number e field =
     line (label_number (codes "full line ") number ++ codes ": " ++ event_words mesh e ++ codes ": "

@@ -17,7 +17,7 @@ use Rattle.mesh_text.specs.EveryWorld.{opening_world}
 abbrev pub only_datum : ℕ → ℕ → Body → Test
 only_datum o d body = λ p q other. (p == o) && (q == d) && bytes_eq other body
 
--- how many lines of a text are this one, which has its LF
+-- how many lines of a text equal this one, which is given with its LF
 abbrev pub lines_equal : List ℕ → List ℕ → ℕ
 lines_equal whole text = count_by (λ l. bytes_eq (line l) whole) (parts 10 text)
 

@@ -1,6 +1,6 @@
 -- Part of what the headline says.
--- The events that the lines of an input do, one after another, and the states and worlds that they
--- lead through.
+-- The events that the lines of an input do, one after another, and the states and worlds after any
+-- of them.
 use Rattle.std.specs.Prelude.{ℕ, List, [], ◌∷◌, ◌++◌, Option, Some, None, Result, Ok, Err, take, is_some, slice_get}
 use Rattle.mesh_base.specs.Meshes.{Nodes}
 use Rattle.mesh_base.specs.declared.events.Variant.{Variant}
@@ -13,7 +13,7 @@ use Rattle.mesh_text.specs.Text.{pieces_of_input, LineOutcome, On, Refused, Full
 
 -- ---- the events of a line
 
--- those of an allowed line
+-- the events of an allowed line
 abbrev pub events_of_line : RunState → AcceptedLine → List Event
 events_of_line m (Does e) = e ∷ []
 events_of_line m (Chooses count) = events_chosen count (with_world m)
@@ -30,7 +30,7 @@ events_of_piece m Beyond = []
 
 -- ---- the events of an input
 
--- those of the lines that follow, unless the run has ended
+-- the events of the lines that follow, unless the run has ended
 abbrev pub events_after : LineOutcome → (RunState → List Event) → List Event
 events_after (On text n) others = others n
 events_after (Refused why) others = []
@@ -51,7 +51,7 @@ unfoldable pub run_state_after : RunState → List Event → RunState
 run_state_after m [] = m
 run_state_after m (e ∷ es) = run_state_after (next_state m e) es
 
--- after the first k events of a line
+-- the state after the first k events of a line
 abbrev pub run_state_in : RunState → Piece → ℕ → RunState
 run_state_in m piece k = run_state_after m (take k (events_of_piece m piece))
 
@@ -63,7 +63,7 @@ state_in_next m (Some piece) k = run_state_in m piece k
 abbrev pub prefix_of_input : Variant → List ℕ → ℕ → RunText
 prefix_of_input variant input i = text_from (opening variant) (take i (pieces_of_input input))
 
--- after those lines, and k events of the next
+-- the state after the first i lines, and k events of the next
 abbrev pub run_state_at : Variant → List ℕ → ℕ → ℕ → RunState
 run_state_at variant input i k =
     state_in_next (prefix_of_input variant input i).after (slice_get (pieces_of_input input) i) k

@@ -1,5 +1,5 @@
 -- Part of what the headline says.
--- The states of a run, whether a line is allowed in a state, and what an event leaves.
+-- The states of a run, whether a line is allowed in a state, and the state after an event.
 use Rattle.std.specs.Prelude.{ℕ, ◌+◌, ◌==◌, Bool, List, [], ◌∷◌, Option, None, Some, Result, Ok, Err, length, if◌then◌else◌, is_some}
 use Rattle.std.specs.Option.{unwrap_or}
 use Rattle.mesh_base.specs.Meshes.{Nodes, index_of}
@@ -40,7 +40,7 @@ pub record RunState : Type 0 where
 abbrev pub no_sums : Sums
 no_sums = record { events = 0; idle = 0; given = 0; delivered = 0; lost = 0; copied = 0 }
 
--- before the first line
+-- the state before the first line
 abbrev pub opening : Variant → RunState
 opening variant = record {
   variant = variant;
@@ -61,14 +61,14 @@ pub data AcceptedLine : Type 0 where
   NewNode : (address first : ℕ) → AcceptedLine
   -- one event
   Does : Event → AcceptedLine
-  -- up to so many events, each chosen by what is enabled
+  -- up to this many events, each chosen by what is enabled at that time
   Chooses : (count : ℕ) → AcceptedLine
   -- a node's state is shown; where its valid routes to a destination lead; the copies in flight
   ShowsNode : (node : ℕ) → AcceptedLine
   ShowsRoute : (node dest : ℕ) → AcceptedLine
   ShowsFlight : AcceptedLine
 
--- no line but a `node` line comes before the first node
+-- a line that is neither blank nor a `node` line is refused while there is no node
 abbrev pub after_nodes : Nodes → Result AcceptedLine LineFault → Result AcceptedLine LineFault
 after_nodes [] r = Err Early
 after_nodes (p ∷ ps) r = r
@@ -78,7 +78,7 @@ abbrev pub as_node : {B : Type 0} → Nodes → SpannedAddr → (ℕ → Result 
     → Result B LineFault
 as_node mesh a next = with_argument (index_of mesh a.address) (Unknown a.span) next
 
--- arguments with each node by its index. The leftmost address that is no node is the fault
+-- arguments with its node's index for each address. The fault is the leftmost one that no node has
 abbrev pub with_nodes : Nodes → Arguments SpannedAddr → Result (Arguments ℕ) LineFault
 with_nodes mesh NoArgument = Ok NoArgument
 with_nodes mesh (OneAddress a) = as_node mesh a (λ x. Ok (OneAddress x))
@@ -91,12 +91,12 @@ with_nodes mesh (AddressesAndText a b text) =
 with_nodes mesh (AddressAndNumber a n) = as_node mesh a (λ x. Ok (AddressAndNumber x n))
 with_nodes mesh (AddressAndText a text) = as_node mesh a (λ x. Ok (AddressAndText x text))
 
--- an event of two nodes that are not the same
+-- an event of two nodes, which must not be the same
 abbrev pub of_pair : ℕ → ℕ → Event → Result AcceptedLine LineFault
 of_pair a b e = if a == b then Err Same else Ok (Does e)
 
--- the line that a command makes of its arguments, with each node by its index. Arguments of another
--- command make none
+-- the line of a command and its arguments, which give each node by its index. Arguments of another
+-- form than the command's are a fault
 abbrev pub made_line : Command → Arguments ℕ → Result AcceptedLine LineFault
 made_line command.Link (TwoAddresses a b) = of_pair a b (Link a b)
 made_line command.Cut (TwoAddresses a b) = of_pair a b (Cut a b)
@@ -113,7 +113,7 @@ made_line command.Route (TwoAddresses x d) = Ok (ShowsRoute x d)
 made_line command.Flight NoArgument = Ok ShowsFlight
 made_line others arguments = Err Count
 
--- a node that isn't there yet, before the run has started
+-- a new node, which must not be in the mesh yet, before the run has started
 abbrev pub new_node : Nodes → Bool → SpannedAddr → ℕ → Result AcceptedLine LineFault
 new_node mesh started a first =
     if started then Err Late else
@@ -125,8 +125,8 @@ abbrev pub result_and_then : {A B E : Type 0} → (A → Result B E) → Result 
 result_and_then next (Ok x) = next x
 result_and_then next (Err e) = Err e
 
--- a command and its arguments with this mesh: one more node, or a line about the nodes that are
--- there. A run has started once a line was neither blank nor a `node` line
+-- a command and its arguments in this mesh: one more node, or a line about the nodes of the mesh. A
+-- run has started once a line was neither blank nor a `node` line
 abbrev pub accepted_line : Nodes → Bool → Command → Arguments SpannedAddr
     → Result AcceptedLine LineFault
 accepted_line mesh started command (NumberedAddress a first) = new_node mesh started a first
@@ -138,11 +138,11 @@ abbrev pub accepted_shape : Nodes → Bool → Option (Shape Command SpannedAddr
 accepted_shape mesh started None = Ok Nothing
 accepted_shape mesh started (Some s) = accepted_line mesh started s.command s.arguments
 
--- what a line comes to: its own faults first, then those of where it stands
+-- what a line says, or its first fault: those of the line by itself, then those of its place
 unfoldable pub line_of : Nodes → Bool → List ℕ → Result AcceptedLine LineFault
 line_of mesh started line = result_and_then (accepted_shape mesh started) (shape_of line)
 
--- ---- what lines and events leave
+-- ---- the state after lines and events
 
 -- the world of a state. The first line that is allowed, and is neither blank nor a `node` line,
 -- makes it
@@ -158,7 +158,7 @@ idle_by Idle = 1
 idle_by (worlds.Full x f) = 0
 idle_by (Next w world_effect) = 0
 
--- what was counted, with one more event and what came of it
+-- what was counted, with one more event and its outcome
 abbrev pub sums_after : Sums → Event → Outcome → Sums
 sums_after s e o = record {
   events = s.events + 1;
@@ -169,11 +169,11 @@ sums_after s e o = record {
   copied = s.copied + doubled_at o;
 }
 
--- what comes of an event in a state
+-- the outcome of an event in a state
 abbrev pub outcome_at : RunState → Event → Outcome
 outcome_at m e = step (world_of m) e
 
--- the state after an event that isn't refused. One that is idle is a step too
+-- the state after an event that isn't refused. An idle event is a step too
 unfoldable pub next_state : RunState → Event → RunState
 next_state m e = record m {
   world = Some (after (world_of m) (outcome_at m e));

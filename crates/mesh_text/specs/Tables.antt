@@ -30,7 +30,7 @@ number_line label n = line (32 ∷ 32 ∷ label ++ 32 ∷ decimal n)
 unfoldable pub asked_line : Nodes → ℕ → ℕ → List ℕ
 asked_line mesh o id = line (codes "  asked " ++ name_of mesh o ++ 32 ∷ decimal id)
 
--- the requests that were seen, by rising originator and then by rising id
+-- the requests that were seen, in ascending order of originator and then of id
 unfoldable pub asked_text : Nodes → SeenRequests → List ℕ
 asked_text mesh seen = flat_map (λ p. asked_line mesh p.0 p.1) (pairs_in seen)
 
@@ -49,30 +49,30 @@ entry_text mesh d e =
     ++ flag_text e.flag ++ decimal e.hops
     ++ 32 ∷ name_of mesh e.next ++ 32 ∷ set_text mesh e.pre)
 
--- the entries of a table, by rising destination
+-- the entries of a table, in ascending order of destination
 unfoldable pub routes_text : Nodes → Table → List ℕ
 routes_text mesh rt = flat_map (λ e. entry_text mesh e.0 e.1) (maps.entries rt)
 
 abbrev pub req_text : Bool → List ℕ
 req_text needs = if needs then codes " req " else codes " noreq "
 
--- so many data wait for d, and whether a request is still to be made
+-- how many data wait for d, and whether a request is still to be made
 unfoldable pub waits_line : Nodes → ℕ → Bool → ℕ → List ℕ
 waits_line mesh d needs count =
     line (codes "  waits " ++ name_of mesh d ++ req_text needs ++ decimal count)
 
--- the same, where there are any
+-- the line of the data that wait for d, if there are any
 abbrev pub waits_text : Nodes → ℕ → Bool → List Body → List ℕ
 waits_text mesh d needs [] = []
 waits_text mesh d needs (b ∷ bs) = waits_line mesh d needs (length (b ∷ bs))
 
--- what waits in a store, by rising destination
+-- what waits in a store, in ascending order of destination
 unfoldable pub store_text : Nodes → Store → List ℕ
 store_text mesh store =
     flat_map (λ e. waits_text mesh e.0 (e.1).needs_request (e.1).bodies) (maps.entries store)
 
--- its own number; the requests that it has seen, its entries and its waiting data, each by rising
--- address; and how many items its queue has
+-- a node: its own number; the requests that it has seen, its entries and its waiting data, each in
+-- ascending order of address; and how many items its queue has
 unfoldable pub node_text : Nodes → Core → ℕ → List ℕ
 node_text mesh core queue =
     number_line (codes "sn") core.sn

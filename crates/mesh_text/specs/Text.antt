@@ -24,29 +24,29 @@ use Rattle.mesh_text.specs.Auto as auto
 
 -- ---- one line
 
--- what a line comes to in a state: its text and the next state; why it is refused; or its text
--- before an event that is refused for a full counter, the state in which it is, and that event
+-- the outcome of a line in a state: its text and the next state; why it is refused; or its text
+-- before an event that is refused for a full counter, the state at that event, and the event
 pub data LineOutcome : Type 0 where
   On : List ℕ → RunState → LineOutcome
   Refused : BadWhy → LineOutcome
   Full : List ℕ → RunState → Event → Counter → LineOutcome
 
--- a line whose events came to this
+-- the outcome of a line whose events had this outcome
 abbrev pub outcome_by_events : auto.EventsOutcome → LineOutcome
 outcome_by_events (auto.Ended text after) = On text (with_line_read after)
 outcome_by_events (auto.Full text n e field) = Full text n e field
 
--- a line that chose so many events: its own text, theirs, and the line after them
+-- the outcome of a line that chose `did` events: its own text, theirs, and the line after them
 abbrev pub outcome_of_auto : List ℕ → ℕ → auto.EventsOutcome → LineOutcome
 outcome_of_auto text did (auto.Ended others after) =
     On (text ++ others ++ auto.auto_end did) (with_line_read after)
 outcome_of_auto text did (auto.Full others n e field) = Full (text ++ others) n e field
 
--- a line that changes nothing but that the run has started
+-- the outcome of a line that changes nothing, except that the run has started
 abbrev pub outcome_of_show : RunState → List ℕ → LineOutcome
 outcome_of_show m text = On text (with_line_read (with_world m))
 
--- an allowed line in a state
+-- the outcome of an allowed line in a state
 unfoldable pub outcome_of_line : RunState → AcceptedLine → LineOutcome
 outcome_of_line m Nothing = On [] (with_line_read m)
 outcome_of_line m (NewNode address first) =
@@ -70,7 +70,7 @@ abbrev pub outcome_of_read : RunState → Result AcceptedLine LineFault → Line
 outcome_of_read m (Ok a) = outcome_of_line m a
 outcome_of_read m (Err fault) = Refused (Fault fault)
 
--- what a line of the input comes to in a state
+-- the outcome of a line of the input in a state
 unfoldable pub outcome_of_piece : RunState → Piece → LineOutcome
 outcome_of_piece m (Whole line) = outcome_of_read m (line_of m.mesh (is_some m.world) line)
 outcome_of_piece m Long = Refused TooLong
@@ -88,28 +88,28 @@ text_in (Full text n e field) = text
 abbrev pub pieces_of_input : List ℕ → List Piece
 pieces_of_input input = pieces_within schedule_limits input
 
--- what a run writes: its lines and its last line; what it came to; and the state after its last
--- allowed line
+-- what a run writes: the text of its lines, and its last line; its verdict; and the state after its
+-- last allowed line
 abbrev pub RunText : Type 0
 RunText = shell.RunText RunState Verdict
 
--- at the end of the input
+-- how a run ends at the end of its input
 abbrev pub ending : RunState → shell.Ending RunState Verdict
 ending m = record { text = done_line m; verdict = Finished; after = m }
 
 abbrev pub finished_run : RunState → RunText
 finished_run m = shell.finished_run (ending m)
 
--- at a line that is refused
+-- a run that ends at a line that is refused
 abbrev pub refused_run : RunState → BadWhy → RunText
 refused_run m why = shell.ended_run m [] (bad_line (m.lines + 1) why) (RefusedAt (m.lines + 1))
 
--- at a line with an event that is refused for a full counter, after a text
+-- a run that ends at a line with an event that is refused for a full counter, after a text
 abbrev pub overfull_run : RunState → List ℕ → Event → Counter → RunText
 overfull_run m text e field =
     shell.ended_run m text (full_line m.mesh (m.lines + 1) e field) (FullAt (m.lines + 1))
 
--- how a line that comes to this goes on, or ends the run
+-- how a run goes on, or ends, at a line with this outcome
 abbrev pub outcome_in_run : RunState → LineOutcome → shell.Outcome RunState Verdict
 outcome_in_run m (On text n) = shell.On text n
 outcome_in_run m (Refused why) =
@@ -117,11 +117,11 @@ outcome_in_run m (Refused why) =
 outcome_in_run m (Full text n e field) =
     shell.Ended text (full_line m.mesh (m.lines + 1) e field) (FullAt (m.lines + 1))
 
--- what a line came to, and then the rest of the run from the next state on
+-- the outcome of a line, and then the rest of the run from the next state on
 abbrev pub goes_on : RunState → LineOutcome → (RunState → RunText) → RunText
 goes_on m k others = shell.goes_on m (outcome_in_run m k) others
 
--- a run of a schedule: nothing stands before the text of its first line
+-- the run of a schedule: nothing comes before the text of its first line
 abbrev pub schedule_run : shell.Fold RunState Verdict
 schedule_run = record {
   head = λ m. [];
@@ -133,10 +133,10 @@ schedule_run = record {
 abbrev pub text_from : RunState → List Piece → RunText
 text_from m pieces = shell.text_from schedule_run m pieces
 
--- what a run writes for an input from a state on, and what it comes to
+-- what a run writes for an input from a state on, and its verdict
 abbrev pub text_on : RunState → List ℕ → RunText
 text_on m input = shell.text_on schedule_run schedule_limits m input
 
--- the same from the opening on
+-- the run of an input from the opening on
 unfoldable pub text_of_input : Variant → List ℕ → RunText
 text_of_input variant input = text_on (opening variant) input

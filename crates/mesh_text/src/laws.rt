@@ -12,14 +12,14 @@ pub fn a_read_line_is_in_range()
     ensures { ReadLineIsInRange }
 {}
 
-/// A line that is read is written back as it stands, but that `node ADDR` is written back with the
-/// number 1.
+/// A line that is read, and isn't blank, is written back as it was, except that `node ADDR` is
+/// written back with the number 1.
 pub fn a_read_line_is_written_as_it_was()
     ensures { ReadLineIsWrittenAsItWas }
 {}
 
-/// In every run each datum that was given or doubled was delivered, waits, is in flight, or was
-/// dropped.
+/// At the end of every run the counts of data add up: as many were given and doubled as were
+/// delivered, wait, are in flight, and were dropped.
 pub fn data_are_accounted_for()
     ensures { DataAreAccountedFor }
 {}
@@ -30,13 +30,14 @@ pub fn each_datum_is_accounted_for()
     ensures { EachDatumIsAccountedFor }
 {}
 
-/// The sums of a run are in order: idle events, given data and doubled data are no more than the
-/// events, and delivered and dropped data no more than those given and doubled.
+/// The sums of a run are in order: idle events, given data and doubled data together are no more
+/// than the events, and delivered and dropped data together no more than given and doubled data.
 pub fn the_sums_are_in_order()
     ensures { SumsAreInOrder }
 {}
 
-/// The worlds of a run are those of the run of its events, one step after another.
+/// The last world of a run is the world after as many of the input's events as were counted, one
+/// step after another.
 pub fn a_run_is_a_run_of_events()
     ensures { RunIsRunOfEvents }
 {}
@@ -46,7 +47,7 @@ pub fn all_events_count()
     ensures { AllEventsCount }
 {}
 
-/// Each event of an input is one of its mesh.
+/// Each event of an input is an event of its mesh.
 pub fn events_are_of_the_mesh()
     ensures { EventsAreOfMesh }
 {}
@@ -66,12 +67,12 @@ pub fn an_auto_line_has_four_bytes()
     ensures { AutoLineHasFourBytes }
 {}
 
-/// A line does at most a quarter of the most events for each of its bytes.
+/// A line does at most `MOST_EVENTS` / 4 events for each of its bytes.
 pub fn a_line_has_few_events()
     ensures { LineHasFewEvents }
 {}
 
-/// An event of the mesh keeps the account of the data.
+/// If the counts of data add up before an event of the mesh, they do so after it.
 pub fn an_event_keeps_the_account()
     ensures { EventKeepsAccount }
 {}
@@ -82,7 +83,7 @@ pub fn every_state_is_of_the_run()
     ensures { StateIsOfRun }
 {}
 
-/// At no state of a run have a destination's valid routes a loop.
+/// In no state of a run do a destination's valid routes have a loop.
 pub fn every_state_is_loop_free()
     ensures { RunStateIsLoopFree }
 {}
@@ -92,7 +93,8 @@ pub fn the_last_line_is_of_the_last_state()
     ensures { LastLineIsOfLastState }
 {}
 
-/// Unless a full counter has ended a run, its text names each datum that was delivered or dropped.
+/// Unless a full counter has ended a run, its text has as many lines of delivered data, and of
+/// dropped data, as were counted.
 pub fn data_are_named()
     ensures { DataAreNamed }
 {}
@@ -103,13 +105,13 @@ pub fn each_datum_is_named()
     ensures { EachDatumIsNamed }
 {}
 
-/// A run of complete lines and of what follows them is the run of what follows, from the last
-/// state of the lines on.
+/// In an input within its limit, the run of complete lines that were all done, and of what follows
+/// them, is the run of the lines and then, from their last state on, the run of what follows.
 pub fn a_run_goes_on()
     ensures { RunGoesOn }
 {}
 
-/// The steps of a run rise as the events do that are counted.
+/// A run's steps increase by as many as its counted events.
 pub fn steps_are_events()
     ensures { StepsAreEvents }
 {}

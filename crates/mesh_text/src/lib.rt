@@ -1,6 +1,6 @@
-//! What a schedule and the text of its run are: whether a line is allowed in a state, what an
-//! event of it does, and the text and verdict that an input's bytes have. These are definitions
-//! for the contracts of other crates, with their laws; a program has nothing of them but `Verdict`.
+//! What a schedule and the text of its run are: whether a line is allowed in a state, what its
+//! events do, and the text and verdict of an input's bytes. These are definitions for the contracts
+//! of other crates, with their laws; of these a program has only `Verdict`.
 #![tactic(auto)]
 
 mod laws;

@@ -1,21 +1,21 @@
 -- The lists of the copies in flight. The copies of a cast share one: they have the ids from its
--- first to before its end.
+-- first on that are below its end.
 use Rattle.std.specs.Prelude.{◌≡◌, ℕ, ◌≤◌, ◌<◌, ◌⊎◌, Bool, false, nat_le, not, if◌then◌else◌, Some, List, [], ◌∷◌, length, slice_get}
 use Rattle.mesh_base.specs.declared.events.Flying.{Flying}
 use Rattle.mesh_radio.specs.Copies.{from_id}
 use Rattle.mesh_trail.specs.declared.casts.Cast.{Cast}
 
--- the list of the copy of that id: of the first cast that ends after it
+-- the list of the copy of that id: that of the first cast that ends after the id
 abbrev pub list_of : List Cast → ℕ → List ℕ
 list_of [] id = []
 list_of (c ∷ cs) id = if nat_le c.end id then list_of cs id else c.list
 
--- the first cast that ends after that id begins no later
+-- a cast ends after that id, and the first one that does begins no later than the id
 abbrev pub IsCovered : List Cast → ℕ → Type 0
 IsCovered [] id = ⊥
 IsCovered (c ∷ cs) id = ((c.end ≤ id) × IsCovered cs id) ⊎ ((c.first ≤ id) × (id < c.end))
 
--- their ends rise from `low` on, up to `next`
+-- the casts' ends never fall, and are at least `low` and at most `next`
 abbrev pub AreEnding : ℕ → List Cast → ℕ → Type 0
 AreEnding low [] next = low ≤ next
 AreEnding low (c ∷ cs) next = (low ≤ c.end) × AreEnding c.end cs next

@@ -22,34 +22,34 @@ abbrev pub front_of : Option Node → front.Front
 front_of None = fronts.Empty
 front_of (Some n) = front_in n.queue
 
--- it names nodes of a mesh of this size
+-- what waits names only nodes of a mesh of this size
 abbrev pub IsFrontIn : ℕ → front.Front → Type 0
 IsFrontIn size fronts.Empty = ⊤
 IsFrontIn size fronts.New = ⊤
 IsFrontIn size (fronts.Heard from said) = (from < size) × IsSaidIn size said
 
--- the entry, if there is one, leads to the neighbour y itself
+-- there is an entry, and it leads to the neighbour y itself
 abbrev pub leads_to : ℕ → Option Entry → Bool
 leads_to y None = false
 leads_to y (Some e) = (e.hops == 1) && (e.next == y)
 
--- the entry is valid, and leads to the neighbour y itself
+-- there is an entry; it is valid, and leads to the neighbour y itself
 abbrev pub is_known : ℕ → Option Entry → Bool
 is_known y None = false
 is_known y (Some e) = is_val e.flag && ((e.hops == 1) && (e.next == y))
 
--- what waits is of a neighbour to whom the table has a valid route of one hop
+-- what waits is from a neighbour to which the table has a valid route of one hop
 abbrev pub knows : Table → front.Front → Bool
 knows rt fronts.Empty = false
 knows rt fronts.New = false
 knows rt (fronts.Heard y s) = is_known y (maps.get rt y)
 
--- the entry, if there is one, has this number, a hop more than h, and leads by y
+-- there is an entry; it has this number, one hop more than h, and next hop y
 abbrev pub tells : ℕ → ℕ → ℕ → Option Entry → Bool
 tells y n h None = false
 tells y n h (Some e) = (e.dsn == n) && ((e.hops == h + 1) && (e.next == y))
 
--- what a node whose table is this now has learnt of what the neighbour y said
+-- what a node, whose table is now `rt`, has learnt from what the neighbour y said
 abbrev pub lesson_of : Table → ℕ → Said → Lesson
 lesson_of rt y says.Parcel = record { from = y; near = false; dest = y; told = false }
 lesson_of rt y says.Error =

@@ -1,6 +1,6 @@
 -- The walks that are kept as lists, and what each event does to them. A list has its holder first
--- and its destination last. A node that hears a request or a reply gets the list beside it; so it
--- knows the way that its new route goes.
+-- and its destination last. A node that hears a request or a reply gets its list too, and so knows
+-- the way that its new route goes.
 use Rattle.std.specs.Prelude.{ℕ, ◌+◌, ◌==◌, Bool, false, ◌&&◌, nat_le, if◌then◌else◌, Option, Some, None, List, [], ◌∷◌, ◌++◌, drop, slice_get}
 use Rattle.std.specs.FinMap as maps
 use Rattle.aodv_model.specs.declared.entry.Entry.{Entry}
@@ -11,14 +11,14 @@ use Rattle.mesh_model.specs.Worlds as worlds
 use Rattle.mesh_model.specs.Worlds.{World, Node, Copy, Event, Give, Turn, Send, Ask, Link, Cut, Deliver, Lose, Double, Outcome, Idle, Next, WorldEffect, Changed, Taken, Sent, CopyHeard, CopyLost, CopyDoubled, is_parcel, step}
 
 -- the lists of each node's entry for each destination; of the items of each node's queue; and of
--- the copy of each id. The list of what is no request or reply, of an entry that isn't valid, and
--- of a copy that doesn't fly says nothing
+-- the copy of each id. The list of an item or a copy that is no request or reply, of an entry that
+-- isn't valid, and of a copy that isn't in flight says nothing
 pub record KeptLists : Type 0 where
   pub entries : ℕ → ℕ → List ℕ
   pub queues : ℕ → List (List ℕ)
   pub flying : ℕ → List ℕ
 
--- none yet
+-- no lists yet
 abbrev pub nothing_kept : KeptLists
 nothing_kept = record { entries = λ x d. []; queues = λ x. []; flying = λ id. [] }
 
@@ -28,7 +28,7 @@ nothing_kept = record { entries = λ x d. []; queues = λ x. []; flying = λ id.
 abbrev pub changed_at : {A : Type 0} → (ℕ → A) → ℕ → A → ℕ → A
 changed_at f x v y = if y == x then v else f y
 
--- this list from that id on, and before it as it was
+-- this list from that id on, and the lists before that id as they were
 abbrev pub from_id_on : (ℕ → List ℕ) → ℕ → List ℕ → ℕ → List ℕ
 from_id_on flying first list id = if nat_le first id then list else flying id
 
@@ -39,53 +39,54 @@ first_list (l ∷ ls) = l
 
 -- ---- what a node learns
 
--- the entry for q leads to the neighbour y itself
+-- q is the neighbour y, and the entry for q leads to it directly
 abbrev pub is_near : ℕ → ℕ → Entry → Bool
 is_near y q e = (q == y) && ((e.hops == 1) && (e.next == y))
 
--- the entry for q has this number, a hop more than h, and leads by y
+-- q is d, and the entry for q has number n, one hop more than h, and next hop y
 abbrev pub is_route : ℕ → ℕ → ℕ → ℕ → ℕ → Entry → Bool
 is_route y d n h q e = (q == d) && ((e.dsn == n) && ((e.hops == h + 1) && (e.next == y)))
 
--- the entry for q is the route that a message from y tells of: a request of its originator, a reply
--- of its destination
+-- the entry for q is the route that a message from y announces: a request announces one to its
+-- originator, a reply one to its destination
 abbrev pub is_told : ℕ → Message → ℕ → Entry → Bool
 is_told y (Pkt b d o) q e = false
 is_told y (Rreq m) q e = is_route y m.oip m.osn m.hops q e
 is_told y (Rrep m) q e = is_route y m.dip m.dsn m.hops q e
 is_told y (Rerr dests) q e = false
 
--- x has heard m with list l from y, and this is its entry for q: it leads to y; or it is the route
--- that m told of, and its walk is the message's, with x in front; or it is what it was
+-- the list of this entry of x for q, once x has heard m with list l from y: x and y, if the entry
+-- leads to y itself; else l with x in front, if the entry is the route that m announced; else the
+-- list that it had
 abbrev pub entry_list : ℕ → ℕ → Message → List ℕ → ℕ → List ℕ → Option Entry → List ℕ
 entry_list x y m l q kept None = kept
 entry_list x y m l q kept (Some e) =
     if is_near y q e then x ∷ y ∷ [] else if is_told y m q e then x ∷ l else kept
 
--- the lists of x's entries, once its table is that; data teach nothing
+-- the lists of x's entries after that, when its table is `now`; data teach nothing
 abbrev pub entries_after : ℕ → ℕ → Message → List ℕ → Table → (ℕ → List ℕ) → ℕ → List ℕ
 entries_after x y m l now kept q =
     if is_parcel m then kept q else entry_list x y m l q (kept q) (maps.get now q)
 
 -- ---- what a node casts
 
--- x replies to a request, or passes a reply on: of itself it has no way to go, else it has that of
--- its entry
+-- the list of a reply by which x answers a request, or which x passes on: x alone if the request is
+-- for x, else that of x's entry for the destination
 abbrev pub reply_list : ℕ → (ℕ → List ℕ) → Message → List ℕ
 reply_list x entries (Pkt b d o) = []
 reply_list x entries (Rreq m) = if m.dip == x then x ∷ [] else entries m.dip
 reply_list x entries (Rrep m) = entries m.dip
 reply_list x entries (Rerr dests) = []
 
--- x, with these lists of its entries, has heard a message with list l, and casts another: a request
--- that it passes on has x in front
+-- the list of a message that x, with these lists of its entries, casts after it heard one with list
+-- l: a request that it passes on has x in front
 abbrev pub sent_list : ℕ → (ℕ → List ℕ) → Message → List ℕ → Message → List ℕ
 sent_list x entries heard l (Pkt b d o) = []
 sent_list x entries heard l (Rreq m) = x ∷ l
 sent_list x entries heard l (Rrep m) = reply_list x entries heard
 sent_list x entries heard l (Rerr dests) = []
 
--- x casts of its own accord: a request of its own
+-- the list of a message that x casts of its own accord: of a request, x alone
 abbrev pub own_list : ℕ → Message → List ℕ
 own_list x (Pkt b d o) = []
 own_list x (Rreq m) = x ∷ []
@@ -99,7 +100,8 @@ with_copies flying list (c ∷ cs) = from_id_on flying c.id (list c.message)
 
 -- ---- events
 
--- x has taken this item from the front of its queue, made these copies, and its table is now that
+-- the lists once x has taken this item from the front of its queue and made these copies, and its
+-- table is `now`
 abbrev pub after_item : ℕ → Table → Item → List Copy → KeptLists → KeptLists
 after_item x now (New b d) copies k =
     record k {
@@ -116,7 +118,7 @@ after_item x now (Heard y m) copies k =
       flying = with_copies k.flying (sent_list x entries m l) copies;
     }
 
--- the front of the queue
+-- the lists once x has taken the front of this queue
 abbrev pub after_front : ℕ → Table → List Item → List Copy → KeptLists → KeptLists
 after_front x now [] copies k = k
 after_front x now (item ∷ items) copies k = after_item x now item copies k
@@ -140,7 +142,7 @@ abbrev pub after_delivery : ℕ → WorldEffect → KeptLists → KeptLists
 after_delivery id (CopyHeard from to) k = with_item k to (k.flying id)
 after_delivery id others k = k
 
--- a doubled copy has the list of its first copy
+-- the second copy of a doubling has the list of the first
 abbrev pub after_doubling : ℕ → WorldEffect → KeptLists → KeptLists
 after_doubling id (CopyDoubled new to parcel) k =
     record k { flying = from_id_on k.flying new (k.flying id) }

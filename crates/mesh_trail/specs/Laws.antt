@@ -11,19 +11,19 @@ use Rattle.mesh_model.specs.Trails.{IsHonestWalk}
 use Rattle.mesh_trail.specs.Kept.{KeptLists, nothing_kept, lists_after}
 use Rattle.mesh_trail.specs.Held.{Holds}
 
--- the opening world has nothing of which a walk is to be kept
+-- in the opening world there is nothing for which a walk is to be kept
 abbrev pub StartHolds : Type 0
 StartHolds =
     (variant : Variant) (firsts : List ℕ) → Holds variant (start variant firsts) nothing_kept
 
--- every event, in every variant, keeps these very lists walks
+-- if the lists are walks before an event, the lists after it are walks, in every variant
 abbrev pub StepHolds : Type 0
 StepHolds =
     (variant : Variant) (w : World) (e : Event) (k : KeptLists) → IsInvariant w → Holds variant w k
     → Holds variant (after w (step w e)) (lists_after w e k)
 
--- the list of a valid entry, turned round, is an honest walk with the entry's hops; these are at
--- most the number of nodes
+-- the list of a valid entry, reversed, is an honest walk of as many links as the entry has hops;
+-- these are at most as many as the nodes
 abbrev pub HeldIsHonest : Type 0
 HeldIsHonest =
     (variant : Variant) (w : World) (k : KeptLists) (x d : ℕ) (e : Entry) → Holds variant w k

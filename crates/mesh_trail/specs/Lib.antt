@@ -1,11 +1,11 @@
 -- What a trail answers, and the lists that it keeps. Read in this order.
 -- Kept: the lists that are kept of a world, and what each event does to them.
 pub mod Kept
--- Held: that they are walks of its entries, requests and replies.
+-- Held: that these lists are walks of its entries, requests and replies.
 pub mod Held
 -- Laws: the statements that this crate proves of them.
 pub mod Laws
--- Walks: what a trail answers. No public contract cites the files behind it.
+-- Walks: what a trail answers. No public contract cites the files after it.
 pub mod Walks
 -- Said: what a message says of routes.
 pub mod Said

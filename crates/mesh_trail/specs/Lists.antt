@@ -14,7 +14,7 @@ pub record IsBlank (size : ℕ) (n : NodeLists) : Type 0 where
   pub entries : AllByRecursion (λ l. l ≡ []) (n.entries).items
   pub queue : (n.queue).items ≡ []
 
--- room was made, or sought, beside the queue of node x
+-- room for a list was made, or asked for, among those of node x's queue
 pub record IsRoomed (x : ℕ) (old new : List NodeLists) : Type 0 where
   pub node : NodeLists
   pub now : NodeLists
@@ -23,12 +23,12 @@ pub record IsRoomed (x : ℕ) (old new : List NodeLists) : Type 0 where
   pub queue : (now.queue).items ≡ (node.queue).items
   pub is : new ≡ slice_set old x now
 
--- there is room for one more list beside the queue of node x
+-- there is room for one more list among those of node x's queue
 abbrev pub HasRoom : ℕ → List NodeLists → Type 0
 HasRoom x nodes =
     (n : NodeLists) → slice_get nodes x ≡ Some n → deque_len n.queue < deque_capacity n.queue
 
--- the list has joined those beside the queue of node x
+-- the list has joined those of node x's queue, at the end
 pub record IsPushed (x : ℕ) (list : List ℕ) (old new : List NodeLists) : Type 0 where
   pub node : NodeLists
   pub now : NodeLists
@@ -45,12 +45,12 @@ list_in (Some l) = l
 abbrev pub row : List (List ℕ) → ℕ → List ℕ
 row rows d = list_in (slice_get rows d)
 
--- this list for d, or as before
+-- the lists with this one for d, or as before
 abbrev pub put_if : Bool → ℕ → List ℕ → List (List ℕ) → List (List ℕ)
 put_if changes d l rows = if changes then slice_set rows d l else rows
 
--- a node has learnt that a neighbour is near, with this list of two, or the longer list of the
--- route that was told
+-- the lists once a node has learnt that a neighbour is near, with its list of two nodes, or the
+-- route that was announced, with its longer list
 abbrev pub after_lesson : Lesson → List ℕ → List ℕ → List (List ℕ) → List (List ℕ)
 after_lesson l near told rows =
     put_if (l.told && not (l.near && (l.from == l.dest))) l.dest told
@@ -63,8 +63,8 @@ reply_list x rows says.Error = []
 reply_list x rows (says.Request origin n h dest) = if dest == x then x ∷ [] else row rows dest
 reply_list x rows (says.Reply dest n h) = row rows dest
 
--- the list of what x casts, once it has heard what was said, which had list l. Of its own accord it
--- casts as if it had heard a datum
+-- the list of what x casts after it heard what was said, which had list l. What it casts of its own
+-- accord has the list that it would have after a datum
 abbrev pub sent_list : ℕ → List (List ℕ) → Said → List ℕ → Said → List ℕ
 sent_list x rows heard l says.Parcel = []
 sent_list x rows heard l says.Error = []

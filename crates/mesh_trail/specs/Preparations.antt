@@ -21,7 +21,7 @@ pub record IsCastPrepared (w : WorldSeen) (p : Parts) : Type 0 where
   pub room : vec_len p.casts < vec_capacity p.casts
   pub first : (p.hand).first ≡ (w.world).next_copy
 
--- what node x may keep and cast is at hand, with this at the front of its queue
+-- what node x may keep and cast when this is at the front of its queue is at hand
 pub record IsNodePrepared (x : ℕ) (front : Front) (w : WorldSeen) (p : Parts) : Type 0 where
   pub node : x < length w.mesh
   pub inside : IsFrontIn (length w.mesh) front
@@ -32,7 +32,7 @@ pub record IsNodePrepared (x : ℕ) (front : Front) (w : WorldSeen) (p : Parts) 
       → KnowsNear front p.hand (n.entries).items
   pub cast : IsCastPrepared w p
 
--- the list of a copy is at hand, and room for it beside the queue of its receiver
+-- the list of a copy is at hand, and there is room for it among those of its receiver's queue
 pub record IsCopyPrepared (id to : ℕ) (p : Parts) : Type 0 where
   pub receiver : (p.hand).to ≡ to
   pub list : (p.hand).taken ≡ list_of (p.casts).items id
@@ -63,10 +63,10 @@ pub record IsAnsweredIn (e : model.Event) (old : WorldSeen) (p : Parts)
   pub kept : AreWalks old (p.nodes).items (p.casts).items
   pub prepared : IsPreparedFor e old p
 
--- so it has done the event, or found that it wasn't enabled
+-- so the world of the parts has done the event, or found that it wasn't enabled
 abbrev pub HasDone : model.Event → Parts → Done → List ℕ → Type 0
 HasDone e p did packet = (old : WorldSeen) × IsAnsweredIn e old p (Ok did) packet
 
--- so it has answered
+-- so the world of the parts has answered
 abbrev pub HasAnswered : model.Event → Parts → Result Done StepError → List ℕ → Type 0
 HasAnswered e p answer packet = (old : WorldSeen) × IsAnsweredIn e old p answer packet

@@ -10,7 +10,7 @@ said_of (Rreq m) = says.Request m.oip m.osn m.hops m.dip
 said_of (Rrep m) = says.Reply m.dip m.dsn m.hops
 said_of (Rerr dests) = says.Error
 
--- it names nodes of a mesh of this size
+-- what is said names only nodes of a mesh of this size
 abbrev pub IsSaidIn : ℕ → said.Said → Type 0
 IsSaidIn size says.Parcel = ⊤
 IsSaidIn size says.Error = ⊤

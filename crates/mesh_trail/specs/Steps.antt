@@ -12,30 +12,30 @@ use Rattle.mesh_trail.specs.declared.lists.Hand.{Hand}
 use Rattle.mesh_trail.specs.Heard.{lesson_of}
 use Rattle.mesh_trail.specs.Lists.{list_in, row, after_lesson, sent_list}
 
--- the list beside the front of the queue
+-- the list of the queue's front item
 abbrev pub front_list : List (List ℕ) → List ℕ
 front_list queue = list_in (slice_get queue 0)
 
--- the lists of its entries, once its table is that
+-- the lists of a node's entries, once its table is `rt`
 abbrev pub rows_after : Table → Front → List ℕ → List ℕ → List (List ℕ) → List (List ℕ)
 rows_after rt fronts.Empty near told rows = rows
 rows_after rt fronts.New near told rows = rows
 rows_after rt (fronts.Heard y s) near told rows = after_lesson (lesson_of rt y s) near told rows
 
--- the list of what it casts
+-- the list of what node x casts
 abbrev pub sent_after : ℕ → Front → List (List ℕ) → List ℕ → Said → List ℕ
 sent_after x fronts.Empty rows l cast = sent_list x rows says.Parcel [] cast
 sent_after x fronts.New rows l cast = sent_list x rows says.Parcel [] cast
 sent_after x (fronts.Heard y s) rows l cast = sent_list x rows s l cast
 
--- there is room for the list of an entry, if a reply to this can have it
+-- there is room for the list that a reply to this message may take from an entry
 abbrev pub FitsReply : List (List ℕ) → ℕ → Said → Type 0
 FitsReply rows room says.Parcel = ⊤
 FitsReply rows room says.Error = ⊤
 FitsReply rows room (says.Request origin n h dest) = length (row rows dest) ≤ room
 FitsReply rows room (says.Reply dest n h) = length (row rows dest) ≤ room
 
--- what node x needs where it has heard this of y, and the front of its queue has list l
+-- what node x needs when it has heard this from y, at the front of its queue, with list l
 pub record IsInHand (x y : ℕ) (s : Said) (rows : List (List ℕ)) (l : List ℕ)
     (hand : Hand) : Type 0 where
   pub near : hand.near ≡ y ∷ x ∷ []
@@ -55,7 +55,7 @@ KnowsNear fronts.Empty hand rows = ⊤
 KnowsNear fronts.New hand rows = ⊤
 KnowsNear (fronts.Heard y s) hand rows = hand.known ≡ true → row rows y ≡ hand.near
 
--- there is room for the list of whatever it casts
+-- there is room for the list of whatever node x casts
 abbrev pub HasRoomFor : ℕ → Front → List (List ℕ) → List ℕ → ℕ → Type 0
 HasRoomFor x front rows l room = (cast : Said) → length (sent_after x front rows l cast) ≤ room
 

@@ -20,7 +20,7 @@ abbrev pub queue_of : Option NodeLists → List (List ℕ)
 queue_of None = []
 queue_of (Some n) = (n.queue).items
 
--- the lists as they are kept of the world: from the holder to the destination
+-- the definitions' lists for the code's: from the holder to the destination
 abbrev pub kept_lists : List NodeLists → List Cast → KeptLists
 kept_lists nodes casts = record {
   entries = λ x d. reverse (row (rows_of (slice_get nodes x)) d);

@@ -11,8 +11,8 @@ use Rattle.mesh_model.specs.Trails.{IsHonestWalk}
 use Rattle.mesh_world.specs.declared.steps.StepError.{StepError}
 use Rattle.mesh_world.specs.declared.steps.StepError.TheVariants as errors
 
--- x has a valid route to d, and the list is an honest walk with its hops; these are at most the
--- number of nodes
+-- x has a valid route to d, and the list is an honest walk of as many links as the route has hops;
+-- these are at most as many as the nodes
 pub record IsRouteWalk (w : World) (x d : ℕ) (walk : List ℕ) : Type 0 where
   pub entry : Entry
   pub there : maps.get (table w x) d ≡ Some entry
@@ -20,7 +20,7 @@ pub record IsRouteWalk (w : World) (x d : ℕ) (walk : List ℕ) : Type 0 where
   pub honest : IsHonestWalk w.ever x d entry.hops walk
   pub few : entry.hops ≤ length w.nodes
 
--- where a counter is full it is a sequence number
+-- if a counter is full, it is a sequence number
 abbrev pub FillsNumber : Result Done StepError → Type 0
 FillsNumber (Err (errors.Full node field)) = field ≡ counters.Number
 FillsNumber others = ⊤

@@ -5,7 +5,8 @@ ghost use Rattle.mesh_trail.specs.Casts.{list_of, AreEnding, IsPosition, flies_i
 use crate::walk::Walk;
 use mesh_radio::Radio;
 
-/// A cast: its copies have the ids from `first` to before `end`, and the list of its message.
+/// A cast: its copies have the ids from `first` on that are below `end`, and the list of its
+/// message.
 #[derive(Drop)]
 pub(crate) struct Cast {
     pub first: u64,
@@ -13,7 +14,7 @@ pub(crate) struct Cast {
     pub list: Walk,
 }
 
-// How many of the casts end no later than this id: a search by halves.
+// How many of the casts end no later than this id, by binary search.
 fn position_after(casts: &[Cast], id: u64) -> usize
     requires { (next : ℕ) × AreEnding 0 casts.now next }
     ensures { IsPosition casts.now id result }
@@ -47,7 +48,7 @@ pub(crate) fn find(casts: &[Cast], id: u64) -> &[usize]
 fn flies(radio: &Radio, cast: &Cast) -> bool
     ensures { result ≡ flies_in radio.now.flying cast.now }
 {
-    // It says that the copies are numbered in order.
+    // The contract of `count` says that the copies are numbered in order.
     let _copies = radio.count();
     let Some(least) = radio.first_id() else {
         return false;
@@ -61,7 +62,7 @@ fn flies(radio: &Radio, cast: &Cast) -> bool
     }
 }
 
-/// The casts go of which no copy flies.
+/// Removes the casts without a copy in flight.
 #[cold]
 #[inline(never)]
 pub(crate) fn sweep(casts: &mut Vec<Cast>, radio: &Radio)

@@ -26,7 +26,7 @@ fn row_at(rows: &[Walk], d: usize) -> &[usize]
     }
 }
 
-// How many nodes the list of an entry has that a reply to this can have.
+// How many nodes a list has that a reply to this message may take from an entry.
 fn reply_len(rows: &[Walk], said: Said) -> usize
     ensures { FitsReply rows.now result said }
 {
@@ -36,7 +36,7 @@ fn reply_len(rows: &[Walk], said: Said) -> usize
     }
 }
 
-// The list beside the front of the queue.
+// The list of the queue's front item.
 fn first_in(lists: &NodeLists) -> &[usize]
     ensures { result.now ≡ front_list lists.now.queue.items }
 {
@@ -46,7 +46,7 @@ fn first_in(lists: &NodeLists) -> &[usize]
     }
 }
 
-/// Prepares what node x may keep and cast, where this is at the front of its queue.
+/// Prepares what node x may keep and cast when this is at the front of its queue.
 pub(crate) fn prepare_hand(
     hand: &mut Hand,
     lists: &NodeLists,
@@ -67,8 +67,8 @@ pub(crate) fn prepare_hand(
         .make(reply.max(list.len().saturating_add(1)).max(2))
 }
 
-/// The front of the queue of node x goes, and the node keeps what it has learnt of it. The list
-/// that was beside it is left in hand.
+/// Takes the front item from the queue of node x, which keeps what it has learnt from it. The list
+/// of the item is left in hand.
 pub(crate) fn take_front(
     lists: &mut NodeLists,
     world: &World,
@@ -107,7 +107,7 @@ fn written(room: Room, rows: &[Walk], x: usize, front: Front, list: &[usize], ca
     }
 }
 
-// The same of what was heard.
+// The list of what node x casts when it has heard this, which had this list.
 fn written_of(room: Room, rows: &[Walk], x: usize, heard: Said, list: &[usize], cast: Said) -> Walk
     requires { length (sent_list x rows.now heard list.now cast) ≤ room }
     ensures { result ≡ sent_list x rows.now heard list.now cast }
@@ -129,7 +129,8 @@ fn written_of(room: Room, rows: &[Walk], x: usize, heard: Said, list: &[usize], 
     }
 }
 
-/// The list of what node x has cast, once the front of its queue with this list was taken.
+/// The list of what node x has cast after it took the front item of its queue, whose list is in
+/// hand.
 pub(crate) fn list_for(
     alloc: Global,
     hand: &mut Hand,

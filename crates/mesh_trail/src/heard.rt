@@ -20,8 +20,8 @@ pub(crate) enum Front {
     Heard { from: usize, said: Said },
 }
 
-/// What a node has learnt of a message: that it has a neighbour `from`, where `near`, and the route
-/// to `dest` that was told, where `told`.
+/// What a node has learnt from a message: if `near`, that it has the neighbour `from`, and if
+/// `told`, the route to `dest` that the message announced.
 #[derive(Clone, Copy)]
 pub(crate) struct Lesson {
     pub from: usize,
@@ -47,7 +47,7 @@ pub(crate) fn front_at(world: &World, x: usize) -> Front
     }
 }
 
-// Whether the entry leads to the neighbour itself.
+// Whether there is an entry, and it leads to the neighbour itself.
 fn is_near(entry: Option<Entry>, from: usize) -> bool
     ensures { result ≡ leads_to from entry }
 {
@@ -57,7 +57,7 @@ fn is_near(entry: Option<Entry>, from: usize) -> bool
     }
 }
 
-// Whether the entry is a valid route to the neighbour itself.
+// Whether there is an entry, and it is a valid route to the neighbour itself.
 fn is_known(entry: Option<Entry>, from: usize) -> bool
     ensures { result ≡ is_known from entry }
 {
@@ -67,7 +67,7 @@ fn is_known(entry: Option<Entry>, from: usize) -> bool
     }
 }
 
-/// Whether what waits at node x is of a neighbour to whom the node has a valid route of one hop.
+/// Whether what waits at node x is from a neighbour to which the node has a valid route of one hop.
 pub(crate) fn knows(world: &World, x: usize, front: Front) -> bool
     requires node { x < length world.now.mesh }
     requires front { IsFrontIn (length world.now.mesh) front }
@@ -79,7 +79,8 @@ pub(crate) fn knows(world: &World, x: usize, front: Front) -> bool
     }
 }
 
-// Whether the entry is the route that a neighbour told of, with this number and so many hops there.
+// Whether the entry is the route that a neighbour announced, with this number and this many hops
+// from the neighbour.
 fn is_told(entry: Option<Entry>, from: usize, number: u32, hops: u8) -> bool
     ensures { result ≡ tells from number hops entry }
 {
@@ -89,7 +90,7 @@ fn is_told(entry: Option<Entry>, from: usize, number: u32, hops: u8) -> bool
     }
 }
 
-/// What node x has learnt of what a neighbour said.
+/// What node x has learnt from what a neighbour said.
 pub(crate) fn lesson_at(world: &World, x: usize, from: usize, said: Said) -> Lesson
     requires node { x < length world.now.mesh }
     requires from { from < length world.now.mesh }

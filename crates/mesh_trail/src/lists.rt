@@ -9,34 +9,34 @@ use mesh_base::NoMemory;
 use std::alloc::Global;
 use std::collections::VecDeque;
 
-/// The lists that a node keeps: one for each destination, of its entry for it, and one beside each
-/// item of its queue.
+/// The lists that a node keeps: one for its entry for each destination, and one for each item of
+/// its queue.
 #[derive(Drop)]
 pub(crate) struct NodeLists {
     pub entries: Vec<Walk>,
     pub queue: VecDeque<Walk>,
 }
 
-/// Lists that a step may keep, written before it is done, and memory for that of a cast; and the
-/// list that was taken last from beside a queue, whose memory serves for one that joins another.
-/// What they are between steps is of no matter.
+/// Lists that a step may keep, written before the step is done, and memory for the list of a cast;
+/// and the list of the item that was taken last from a queue, whose memory is used again for the
+/// list of a copy. What these are between steps doesn't matter.
 #[derive(Drop)]
 pub(crate) struct Hand {
     pub near: Walk,
     pub told: Walk,
     pub taken: Walk,
     pub room: Room,
-    /// What waits at the front of the queue of the node that may take a turn.
+    /// What waits at the front of the queue, if the node is to take a turn.
     pub front: Front,
-    /// The receiver of the copy that may come to it.
+    /// The receiver of the copy that may be delivered.
     pub to: usize,
-    /// The id of the next copy in flight.
+    /// The id that the next copy gets.
     pub first: u64,
     /// Whether the node's entry for its neighbour is known to have the list in `near`.
     pub known: bool,
 }
 
-// No lists, one for each of so many nodes.
+// An empty list for each of this many nodes.
 fn empty_rows(alloc: Global, nodes: usize) -> Result<Vec<Walk>, NoMemory>
     ensures count { IfOk result (λ rows. length rows.items ≡ nodes) }
     ensures empty { IfOk result (λ rows. AllByRecursion (λ l. l ≡ []) rows.items) }
@@ -48,7 +48,7 @@ fn empty_rows(alloc: Global, nodes: usize) -> Result<Vec<Walk>, NoMemory>
     Ok(rows)
 }
 
-/// The lists of so many nodes, all empty.
+/// The lists of this many nodes, all empty.
 pub(crate) fn blank_lists(alloc: Global, nodes: usize) -> Result<Vec<NodeLists>, NoMemory>
     ensures count { IfOk result (λ lists. length lists.items ≡ nodes) }
     ensures blank { IfOk result (λ lists. AllByRecursion (IsBlank nodes) lists.items) }
@@ -63,7 +63,7 @@ pub(crate) fn blank_lists(alloc: Global, nodes: usize) -> Result<Vec<NodeLists>,
     Ok(lists)
 }
 
-/// Makes room for one more list beside the queue of node x.
+/// Makes room for one more list among those of node x's queue.
 pub(crate) fn make_list_room(nodes: &mut Vec<NodeLists>, x: usize) -> Result<(), NoMemory>
     requires { x < length nodes.old.items }
     ensures same { IsRoomed x nodes.old.items nodes.new.items }
@@ -74,7 +74,7 @@ pub(crate) fn make_list_room(nodes: &mut Vec<NodeLists>, x: usize) -> Result<(),
     Ok(())
 }
 
-/// The list joins those beside the queue of node x.
+/// The list joins those of node x's queue, at the end.
 pub(crate) fn push_list(nodes: &mut Vec<NodeLists>, x: usize, list: Walk)
     requires node { x < length nodes.old.items }
     requires room { HasRoom x nodes.old.items }
@@ -84,7 +84,7 @@ pub(crate) fn push_list(nodes: &mut Vec<NodeLists>, x: usize, list: Walk)
     lists.queue.push_back_reserved(list);
 }
 
-// The list comes in place of that of destination d, which is left for it.
+// Puts the list in the place of that of destination d, and leaves that one in `list`.
 fn exchange(rows: &mut Vec<Walk>, d: usize, list: &mut Walk)
     requires { d < length rows.old.items }
     ensures { rows.new.items ≡ slice_set rows.old.items d list.old }
@@ -93,8 +93,8 @@ fn exchange(rows: &mut Vec<Walk>, d: usize, list: &mut Walk)
     std::mem::swap(row, list);
 }
 
-// The list of two in hand comes in place of that of the neighbour's entry, if it leads to the
-// neighbour itself and isn't known to have it.
+// Puts the list of two nodes that is in hand in the place of that of the neighbour's entry, if this
+// entry leads to the neighbour itself and isn't known to have that list.
 fn exchange_near(rows: &mut Vec<Walk>, lesson: Lesson, hand: &mut Hand)
     requires from { lesson.from < length rows.old.items }
     requires known { hand.old.known ≡ true → row rows.old.items lesson.from ≡ hand.old.near }
@@ -107,9 +107,10 @@ fn exchange_near(rows: &mut Vec<Walk>, lesson: Lesson, hand: &mut Hand)
     }
 }
 
-/// What a node keeps of a message that it heard: the list of the two nodes where its neighbour's
-/// entry leads to the neighbour itself, and the longer list where the entry of the destination is
-/// the route that was told. The lists that are replaced are left in hand.
+/// What a node keeps of a message that it heard: the list of the two nodes if its entry for the
+/// neighbour leads to the neighbour itself, and the longer list if its entry for the destination is
+/// the route that was announced and doesn't have the list of the two. The lists that are replaced
+/// are left in hand.
 pub(crate) fn learn(rows: &mut Vec<Walk>, lesson: Lesson, hand: &mut Hand)
     requires from { lesson.from < length rows.old.items }
     requires dest { lesson.dest < length rows.old.items }

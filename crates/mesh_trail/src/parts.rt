@@ -21,19 +21,18 @@ use mesh_base::{Done, Event, NoMemory, Packet};
 use mesh_world::{StepError, World};
 use std::alloc::Global;
 
-/// The parts of a trail. They are in order before and after each event, and not in the midst of
-/// one.
+/// The parts of a trail. They are in order before and after each event, but not during one.
 #[derive(Drop)]
 pub(crate) struct Parts {
     pub world: World,
     pub nodes: Vec<NodeLists>,
     pub casts: Vec<Cast>,
     pub hand: Hand,
-    /// Casts are swept where there are so many.
+    /// Casts are swept once there are this many.
     pub many: usize,
 }
 
-/// So few casts are left to lie: to sweep them would cost more than they take up.
+/// Fewer casts than this aren't swept: that would cost more than the memory that they take up.
 pub(crate) const LYING: usize = 64;
 
 // Whether nothing was done.
@@ -51,8 +50,8 @@ fn is_heard(done: &Done) -> bool
 }
 
 impl Parts {
-    // Room for one more cast. Where casts have become twice as many as they were after the last
-    // sweep, those go of which no copy flies.
+    // Makes room for one more cast. Once there are twice as many casts as after the last sweep, and
+    // at least `LYING`, those without a copy in flight are removed.
     fn make_room(&mut self) -> Result<(), NoMemory>
         requires { AreKept self.old }
         ensures kept { AreKept self.new }
@@ -68,7 +67,7 @@ impl Parts {
         Ok(())
     }
 
-    // Prepares what node x may keep and cast, with this at the front of its queue.
+    // Prepares what node x may keep and cast when this is at the front of its queue.
     fn prepare_node(&mut self, x: usize, front: Front) -> Result<(), NoMemory>
         requires kept { AreKept self.old }
         requires node { x < length self.old.world.mesh }
@@ -86,8 +85,8 @@ impl Parts {
         Ok(())
     }
 
-    // Prepares the list of the copy of this id, and room for it beside the queue of its
-    // receiver.
+    // Prepares the list of the copy of this id, and room for it among those of its receiver's
+    // queue.
     fn prepare_copy(&mut self, id: u64) -> Result<(), NoMemory>
         requires kept { AreKept self.old }
         ensures kept { AreKept self.new }
@@ -104,7 +103,7 @@ impl Parts {
         Ok(())
     }
 
-    // Prepares the list of a second copy beside that of this id.
+    // Prepares the list of a second copy like the one of this id.
     fn prepare_double(&mut self, id: u64) -> Result<(), NoMemory>
         requires kept { AreKept self.old }
         ensures kept { AreKept self.new }
@@ -219,7 +218,7 @@ impl Parts {
         }
     }
 
-    /// The lists follow what the world has answered to an event for which they were prepared.
+    /// The lists follow the world's answer to an event for which they were prepared.
     pub fn follow(
         &mut self,
         alloc: Global,

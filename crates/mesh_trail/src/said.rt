@@ -13,17 +13,17 @@ use mesh_base::{Addr, Mesh};
 pub(crate) enum Said {
     /// A datum: it says nothing.
     Parcel,
-    /// An error: no more than that its sender is near.
+    /// An error: it says only that its sender is near.
     Error,
-    /// A request for `dest`: the route to its originator, with this number and so many hops at the
-    /// sender.
+    /// A request for `dest`: the route to its originator, with this number and this many hops from
+    /// the sender.
     Request {
         origin: usize,
         number: u32,
         hops: u8,
         dest: usize,
     },
-    /// A reply: the route to its destination, likewise.
+    /// A reply: the route to its destination, with this number and this many hops from the sender.
     Reply {
         dest: usize,
         number: u32,
@@ -31,7 +31,7 @@ pub(crate) enum Said {
     },
 }
 
-// The node of an address, 0 for a stranger's.
+// The node of an address, or 0 if it is a stranger.
 #[tactic(auto, unfolding(mesh_base::specs::Meshes::index_in))]
 fn node_of(mesh: &Mesh, a: Addr) -> usize
     ensures value { result ≡ index_in mesh.now a.0 }
@@ -40,7 +40,7 @@ fn node_of(mesh: &Mesh, a: Addr) -> usize
     mesh.index_of(a).unwrap_or(0)
 }
 
-/// What a packet says. Of bytes that encode no message it is of no matter.
+/// What a packet says. For bytes that encode no message it may be anything.
 pub(crate) fn read_said(mesh: &Mesh, bytes: &[u8]) -> Said
     ensures value { refusal bytes.now ≡ None → result ≡ said_of (meaning mesh.now bytes.now) }
     ensures within { 1 ≤ length mesh.now → IsSaidIn (length mesh.now) result }

@@ -21,8 +21,8 @@ use std::marker::Model;
 
 /// A world, and an honest walk for each of its valid routes. As a `Steps` it is its world.
 ///
-/// A node takes as much memory for walks as its routes have hops, and a copy in flight none beside
-/// that of its cast.
+/// The memory that walks take grows with the hops of each node's routes and of the requests and
+/// replies in its queue. The copies in flight of one cast share one walk.
 #[derive(Drop)]
 pub struct Trail {
     parts: Parts,
@@ -42,9 +42,9 @@ impl Model for Trail {
 }
 
 impl Trail {
-    /// An honest walk for the valid route of a node to `dest`: the nodes from `dest` to the
-    /// node, one more than the route has hops. Each is linked to the next at some time, though
-    /// maybe not now; and all after the first are different. None where the node has no valid
+    /// An honest walk for the valid route of a node to `dest`: the nodes from `dest` to the node,
+    /// one more than the route has hops. Each has been linked to the next at some time, though
+    /// maybe it isn't now, and all after the first are different. None if the node has no valid
     /// route to `dest`.
     pub fn walk(&self, node: usize, dest: usize) -> Option<&[usize]>
         requires node { node < length self.now.mesh }

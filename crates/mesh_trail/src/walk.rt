@@ -7,7 +7,7 @@ use std::alloc::Global;
 use std::marker::Model;
 
 /// A list of nodes, as it is kept: from the destination of a route to the node that holds it. It is
-/// empty where there is none.
+/// empty if there is no route.
 #[derive(Drop)]
 pub(crate) struct Walk {
     nodes: Vec<usize>,
@@ -31,8 +31,8 @@ impl Walk {
         }
     }
 
-    /// These nodes, in the memory that the list has. What it is where there is too little is left
-    /// open.
+    /// Sets the list to these nodes, in the memory that it has, or more. If memory runs out, the
+    /// list may be anything.
     pub fn copy(&mut self, nodes: &[usize]) -> Result<(), NoMemory>
         ensures { OnOk result (self.new ≡ nodes.now) }
     {
@@ -41,7 +41,7 @@ impl Walk {
         Ok(())
     }
 
-    /// No nodes any more.
+    /// Removes all nodes.
     pub fn clear(&mut self)
         ensures { self.new ≡ [] }
     {
@@ -55,8 +55,8 @@ impl Walk {
         self.nodes.as_slice()
     }
 
-    /// These nodes and a last one, in the memory that the list has. What it is where there is too
-    /// little is left open.
+    /// Sets the list to these nodes and a last one, in the memory that it has, or more. If memory
+    /// runs out, the list may be anything.
     pub fn write(&mut self, nodes: &[usize], last: usize) -> Result<(), NoMemory>
         ensures { OnOk result (self.new ≡ nodes.now ++ last ∷ []) }
     {
@@ -66,7 +66,7 @@ impl Walk {
         Ok(())
     }
 
-    /// These two nodes, likewise.
+    /// Sets the list to these two nodes, as `write` does.
     pub fn write_two(&mut self, first: usize, last: usize) -> Result<(), NoMemory>
         ensures { OnOk result (self.new ≡ first ∷ last ∷ []) }
     {
@@ -102,7 +102,7 @@ impl Room {
         }
     }
 
-    /// Makes room for so many nodes.
+    /// Makes room for this many nodes.
     pub fn make(&mut self, most: usize) -> Result<(), NoMemory>
         ensures { OnOk result (most ≤ self.new) }
     {

@@ -6,8 +6,8 @@ use mesh_base::Variant;
 use mesh_blocks::Below;
 use mesh_run::variant_named;
 
-/// What the words of a command line ask for: a variant of the protocol, and what is to stand below
-/// an event.
+/// What the words of a command line ask for: a variant of the protocol, and what is to be written
+/// below an event.
 #[derive(Clone, Copy)]
 pub struct Asked {
     pub variant: Variant,
@@ -25,7 +25,7 @@ fn variant_by(option: &str, name: &str) -> Option<Variant>
     }
 }
 
-// A variant, if there is one, and what is to stand below an event.
+// What is asked for with a variant, if there is one, and with what is to be written below an event.
 fn asked_with(below: Below, variant: Option<Variant>) -> Option<Asked>
     ensures { result ≡ asked_with below variant }
 {
@@ -35,7 +35,7 @@ fn asked_with(below: Below, variant: Option<Variant>) -> Option<Asked>
     }
 }
 
-// The same, where a last word is `--changes`.
+// What is asked for with a variant if the last word is `--changes`.
 fn with_changes(word: &str, variant: Option<Variant>) -> Option<Asked>
     ensures { result ≡ with_changes word.now variant }
 {
@@ -68,9 +68,9 @@ fn of_three(option: &str, name: &str, word: &str) -> Option<Asked>
 }
 
 /// What the words ask for: with no word, blocks and the protocol as AWN has it; with
-/// `--variant NAME` that variant of it; and with a last word `--changes` the changes in place of
-/// blocks. None exactly where the words are of no form. The names are `base`, `number`, `reply` and
-/// `error`.
+/// `--variant NAME`, that variant of it; and with a last word `--changes`, the changes in place of
+/// blocks. None exactly where the words are in none of the program's forms. The names are `base`,
+/// `number`, `reply` and `error`.
 pub fn asked_of(words: &[&str]) -> Option<Asked>
     ensures { result ≡ asked_of (map (λ w. w.now) words.now) }
 {

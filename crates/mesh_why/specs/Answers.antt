@@ -26,9 +26,9 @@ pub record IsCut (asked : ℕ × ℕ) (w : RunText) (before now : Option (List �
   pub is : IsRoute w.after asked route
   pub grown : AppendsPrefix before now (w.last ++ route_line (w.after).mesh route)
 
--- the call has answered for the route between these addresses, after the run of these bytes, where
--- the source has this left. Where the run isn't done, what was written and answered is that of a
--- run which writes its last line alone
+-- the call has answered for the route between these addresses, after the run of these bytes, with
+-- this left in the source. If the run isn't done, what was written and answered is that of a run
+-- which writes its last line alone
 abbrev pub IsAnswered : ℕ × ℕ → List ℕ → Option (List ℕ) → Option (List ℕ) → Option (List ℕ)
     → Status → Type 0
 IsAnswered asked bytes left before now Done = IsDone asked (text_on (opening Base) bytes) before now

@@ -12,8 +12,8 @@ use mesh_run::Point;
 use mesh_trail::Trail;
 use mesh_world::Steps;
 
-/// The walk of the route that is asked for, in a state; none where its node or its destination is
-/// no node of the mesh, there is no world yet, or the node has no valid route to the destination.
+/// The walk of the route that is asked for, in a run state. None if there is no world yet, the node
+/// or the destination isn't a node of the mesh, or the node has no valid route to the destination.
 pub fn walk_at(at: &Point<Trail>, asked: Asked) -> Option<&[usize]>
     ensures route { IsRoute at.now (asked.node.0, asked.dest.0) (option_map (λ w. w.now) result) }
     ensures within { IfSome result (λ walk.
@@ -28,7 +28,7 @@ pub fn walk_at(at: &Point<Trail>, asked: Asked) -> Option<&[usize]>
     trail.walk(node, dest)
 }
 
-// The names of the nodes, each after a space.
+// Appends the names of the nodes, each after a space.
 fn push_names(out: &mut LineBuf, mesh: &Mesh, walk: &[usize])
     requires within { All (λ x. x < length mesh.now) walk.now }
     requires room { length out.old + 16 * length walk.now ≤ LINE_CAPACITY }
@@ -41,7 +41,7 @@ fn push_names(out: &mut LineBuf, mesh: &Mesh, walk: &[usize])
     }
 }
 
-// The line of a walk: at most 201 nodes, of 16 bytes each with its space.
+// Appends the line of a walk: at most 201 nodes, each of at most 16 bytes with its space.
 #[tactic(auto, unfolding(crate::specs::Routes::walk_line))]
 fn push_walk(out: &mut LineBuf, mesh: &Mesh, walk: &[usize])
     requires room { length out.old + 3300 ≤ LINE_CAPACITY }
@@ -56,7 +56,7 @@ fn push_walk(out: &mut LineBuf, mesh: &Mesh, walk: &[usize])
     out.push(b'\n');
 }
 
-/// Writes the line of a route, by its walk.
+/// Writes the line of a route: that of its walk, or `none`.
 pub fn put_route<O: Sink>(mesh: &Mesh, walk: Option<&[usize]>, out: &mut O) -> Result<(), PutFault>
     requires within { IfSome walk (λ w. All (λ x. x < length mesh.now) w.now) }
     requires some { IfSome walk (λ w. 1 ≤ length w.now) }

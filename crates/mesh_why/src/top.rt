@@ -46,7 +46,7 @@ fn answer_from<I: Source, O: Sink>(
     }
 }
 
-// The same, in a world of its own.
+// `answer_from` for a run of its own, from the start on.
 fn answer<I: Source, O: Sink>(alloc: Global, asked: Asked, input: &mut I, out: &mut O) -> Status
     ensures told { IfSome (I.left input.old) (λ bytes. IsAnswered (asked.node.0, asked.dest.0) bytes
         (I.left input.new) (O.held out.old) (O.held out.new) result) }
@@ -63,38 +63,39 @@ fn answer<I: Source, O: Sink>(alloc: Global, asked: Asked, input: &mut I, out: &
     answer_from(&mut running, asked, input, out)
 }
 
-/// Runs the schedule that the source gives, in a world of its own where all nodes run the protocol
-/// as AWN has it, and prints an honest walk for a node's route. The words are two addresses: the
-/// node's, and that of the route's destination.
+/// Runs the schedule that the source gives, in a world of its own in which all nodes run the
+/// protocol as AWN has it, and prints an honest walk for a node's route. The words are two
+/// addresses: the node's, and that of the route's destination.
 ///
-/// The last line of the run's text is written; and where the run is done a line `walk H` with the
-/// H + 1 addresses of the walk, from the destination to the node, or `none` where the node has no
+/// The last line of the run's text is written and, if the run is finished, a line `walk H` with the
+/// H + 1 addresses of the walk, from the destination to the node, or `none` if the node has no
 /// valid route to the destination.
 pub fn why<I: Source, O: Sink>(alloc: Global, words: &[&str], input: &mut I, out: &mut O) -> Status
-    // The words are no two addresses: nothing is read or written.
+    // The words aren't two addresses: nothing is read or written.
     ensures usage_exactly_for_other_words { (result ≡ Status.Usage)
         ↔ (asked_of (map (λ w. w.now) words.now) ≡ None) }
     ensures untouched_by_other_words { result ≡ Status.Usage
         → (input.new ≡ input.old) × (out.new ≡ out.old) }
 
-    // What is written is the last line of the text of the input, and where the run is done an
+    // What is written is the last line of the text of the input and, if the run is finished, an
     // honest walk with the hops of the valid route, or `none` exactly where there is no such
-    // route. The answer is the run's verdict. After a failed write, or want of memory, a prefix of
-    // that is written; after a failed read nothing.
+    // route. The answer is the run's verdict. If a write fails or memory runs out, a prefix of
+    // that is written; if a read fails, nothing.
     ensures last_line_and_honest_walk { IfSome (asked_of (map (λ w. w.now) words.now)) (λ asked.
         IfSome (I.left input.old) (λ bytes. IsAnswered asked bytes
         (I.left input.new) (O.held out.old) (O.held out.new) result)) }
 
-    // Done only where the input was read to its end.
+    // The answer is `Done` only if the input was read to its end.
     ensures done_at_the_end { result ≡ Status.Done → IsAtEnd (I.left input.new) }
 
-    // A fault is answered only where the source or the sink has failed in this call, and no other
-    // answer is given where one of them has.
+    // A fault is answered only if the source or the sink has failed in this call, and no other
+    // answer is given if one of them has.
     ensures cause_of_read_fault { HasSourceCause (I.faults input.old) (I.faults input.new) result }
     ensures cause_of_write_fault { HasStatusCause Status.WriteFault
         (O.faults out.old) (O.faults out.new) result }
 
-    // Where every line is allowed and nothing has failed the route is told, unless memory runs out.
+    // If the verdict is `Finished` and nothing has failed, the answer is `Done`, unless memory runs
+    // out.
     ensures complete { IfSome (asked_of (map (λ w. w.now) words.now)) (λ asked.
         IfSome (I.left input.old) (λ bytes. (text_of_input Base bytes).verdict ≡ Finished
         → (Rose (I.faults input.old) (I.faults input.new) → ⊥)

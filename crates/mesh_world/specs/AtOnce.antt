@@ -9,8 +9,8 @@ use Rattle.mesh_world.specs.declared.event_counts.EventCounts.{EventCounts}
 use Rattle.mesh_world.specs.declared.event_counts.EventCounts.TheVariants as counted
 
 -- the copy of this id was delivered, and node `to`, which is then the least that may take a turn,
--- took one: these are the counts of the turn. Between them there is a sound world, and each of the
--- two events has its own account of the data
+-- took one: these are the counts of the turn. Between the two events there is a sound world, and
+-- each of them has its own account of the data
 pub record IsTakenAtOnce (id : ℕ) (old : WorldSeen) (to : ℕ) (event_counts : EventCounts)
     (new : WorldSeen) : Type 0 where
   pub between : WorldSeen

@@ -16,7 +16,7 @@ use Rattle.mesh_meaning.specs.Packets.{IsWrittenItem, IsWrittenCopy}
 use Rattle.mesh_model.specs.Accounts.{any}
 use Rattle.mesh_world.specs.Kept.{world_in}
 
--- the item is a datum, or a datum's packet
+-- the item is a datum, or a data packet
 abbrev pub has_datum : Item → Bool
 has_datum (New dest body) = true
 has_datum (Heard from bytes) = is_data bytes
@@ -40,8 +40,8 @@ queued_in items = sum_by (λ item. one_if (has_datum item)) items
 unfoldable pub flying_in : List Flying → ℕ
 flying_in copies = sum_by (λ f. one_if (is_data f.bytes)) copies
 
--- nodes and copies of a mesh whose packets are all written of their messages, with fewer data than
--- a count can have
+-- the packets in these nodes' queues and in flight are all written of their messages, and the data
+-- are fewer than 2^64, so that they can be counted
 pub record AreCounted (mesh : Nodes) (nodes : List NodeSeen) (radio : RadioState) : Type 0 where
   pub items : AllByRecursion (λ n. AllByRecursion (IsWrittenItem mesh) n.items) nodes
   pub sizes : AllByRecursion (λ n. n.size ≡ length nodes) nodes

@@ -1,4 +1,4 @@
--- What is counted of an event: all that a quiet run wants of what came of it.
+-- What is counted of an event: all that a quiet run needs to know of what came of it.
 use Rattle.std.specs.Prelude.{◌≡◌, ℕ, Bool, true, false, List, Result, Ok, Err, if◌then◌else◌}
 use Rattle.mesh_base.specs.Meshes.{Nodes}
 use Rattle.mesh_base.specs.declared.events.Done.{Done}
@@ -13,7 +13,7 @@ use Rattle.mesh_world.specs.declared.steps.StepError.TheVariants as errors
 use Rattle.mesh_world.specs.declared.event_counts.EventCounts.{EventCounts}
 use Rattle.mesh_world.specs.declared.event_counts.EventCounts.TheVariants as counted
 
--- 1 where it is so
+-- 1 if it is so, else 0
 abbrev pub count_of : Bool → ℕ
 count_of b = if b then 1 else 0
 
@@ -24,12 +24,12 @@ abbrev pub says_idle : EventCounts → Bool
 says_idle counted.Idle = true
 says_idle others = false
 
--- a datum is given
+-- the event gives a datum
 abbrev pub is_give : Event → Bool
 is_give (Give x d body) = true
 is_give others = false
 
--- a datum was given, if the event gives one
+-- the event gives a datum, and was done
 abbrev pub says_given : Event → EventCounts → Bool
 says_given e counted.Changed = is_give e
 says_given e others = false
@@ -48,9 +48,9 @@ abbrev pub says_doubled : EventCounts → Bool
 says_doubled (counted.Doubled parcel) = parcel
 says_doubled others = false
 
--- ---- when it is right
+-- ---- when the counts are right
 
--- of the outcome of an event
+-- these are the counts of the outcome of an event
 pub record AreEventCounts (e : Event) (o : Outcome) (t : EventCounts) : Type 0 where
   pub idle : is_idle o ≡ says_idle t
   pub given : given_data any e o ≡ count_of (says_given e t)
@@ -58,7 +58,7 @@ pub record AreEventCounts (e : Event) (o : Outcome) (t : EventCounts) : Type 0 w
   pub dropped : dropped_data any e o ≡ count_of (says_dropped t)
   pub doubled : doubled_at o ≡ count_of (says_doubled t)
 
--- of an answer, whichever event it is to and whatever world it comes of
+-- these are the counts of an answer, whatever event it answers, and in whatever world
 abbrev pub AreEventCountsOf : Done → EventCounts → Type 0
 AreEventCountsOf done c =
     (mesh : Nodes) (x : ℕ) (old new : World) (packet : List ℕ) (e : Event)
@@ -67,8 +67,8 @@ AreEventCountsOf done c =
 
 -- ---- what is answered
 
--- the event was done, or wasn't enabled: there is an answer that says what came of it, of which
--- these are the counts
+-- the event was done, or wasn't enabled: there is an answer that says what came of it, and these
+-- are the counts of that answer
 pub record IsCounted (e : Event) (old : WorldSeen) (event_counts : EventCounts)
     (new : WorldSeen) : Type 0 where
   pub answer : Done
@@ -84,14 +84,14 @@ IsStepCounted e old (Err (errors.Full node field)) new =
     (step old.world e ≡ worlds.Full node field) × (new ≡ old)
 IsStepCounted e old (Err errors.NoMemory) new = new ≡ old
 
--- they are the counts of the answer, or the same refusal
+-- the result is the counts of the answer, or the same refusal
 abbrev pub HasEventCounts : Result Done StepError → Result EventCounts StepError → Type 0
 HasEventCounts (Ok done) (Ok event_counts) = AreEventCountsOf done event_counts
 HasEventCounts (Ok done) (Err error) = ⊥
 HasEventCounts (Err error) (Ok event_counts) = ⊥
 HasEventCounts (Err error) (Err refused) = error ≡ refused
 
--- the whole answer, where what came of the event was left in `done`
+-- the whole answer, if what came of the event was left in `done`
 abbrev pub answer_with : Result EventCounts StepError → Done → Result Done StepError
 answer_with (Ok event_counts) done = Ok done
 answer_with (Err error) done = Err error

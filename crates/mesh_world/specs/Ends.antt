@@ -1,4 +1,4 @@
--- Where a route of the program's ends, as the definitions have it.
+-- The definitions' end of a route for the program's end.
 use Rattle.std.specs.Prelude.{◌≡◌, ◌<◌, ℕ, List, length}
 use Rattle.std.specs.List.{AllByRecursion}
 use Rattle.mesh_base.specs.Meshes.{Nodes}

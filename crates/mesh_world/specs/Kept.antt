@@ -1,4 +1,4 @@
--- The world that nodes and a radio are, and how the code keeps one.
+-- The world of given nodes and a radio, and how the code keeps one.
 use Rattle.std.specs.Prelude.{◌≡◌, ◌≤◌, ◌+◌, ◌*◌, ℕ, List, length, map, slice_get, is_some}
 use Rattle.std.specs.List.{AllByRecursion}
 use Rattle.std.specs.FinSet as sets
@@ -12,7 +12,7 @@ use Rattle.mesh_model.specs.Choices.{may_turn_in, first_send_in, first_ask_in}
 use Rattle.mesh_meaning.specs.Packets.{IsWrittenItem, IsWrittenCopy, copy_in}
 use Rattle.mesh_world.specs.Seen.{WorldSeen, IsSoundWorld, node_in}
 
--- the world that these nodes and this radio are
+-- the world of these nodes and this radio
 unfoldable pub world_in : Nodes → List NodeSeen → RadioState → World
 world_in mesh nodes radio = record {
   nodes = map (node_in mesh) nodes;
@@ -29,7 +29,7 @@ seen_of mesh nodes radio steps = record {
   steps = steps;
 }
 
--- a node of the mesh, each of whose packets is written of its message
+-- a sound node of the mesh, each of whose packets is written of its message
 pub record IsKeptNode (mesh : Nodes) (n : NodeSeen) : Type 0 where
   pub items : AllByRecursion (IsWrittenItem mesh) n.items
   pub size : n.size ≡ length mesh
@@ -42,7 +42,7 @@ pub record Ready : Type 0 where
   pub sends : NodeIds
   pub asks : NodeIds
 
--- they are those of these nodes
+-- the sets say what these nodes may do
 pub record IsReadyFor (mesh : Nodes) (nodes : List NodeSeen) (ready : Ready) : Type 0 where
   pub turns : (x : ℕ)
       → sets.contains ready.turns x ≡ may_turn_in (slice_get (map (node_in mesh) nodes) x)
@@ -60,6 +60,6 @@ pub record IsKept (mesh : Nodes) (nodes : List NodeSeen) (radio : RadioState) (r
   pub each : AllByRecursion (IsKeptNode mesh) nodes
   pub flying : AllByRecursion (IsWrittenCopy mesh) radio.flying
   pub size : radio.size ≡ length mesh
-  -- so that the numbers of copies don't end
+  -- so that the ids of copies don't run out
   pub numbers : radio.next_copy ≤ most_copies_at_first + MOST_NODES * steps
   pub sets : IsReadyFor mesh nodes ready

@@ -1,6 +1,6 @@
--- What a world is seen as. Read in this order; mesh_model defines what happens in a world, and
--- mesh_meaning what the program's events, copies and answers mean. Seen: what is seen of a world,
--- and what every world keeps.
+-- How contracts view a world. Read in this order; mesh_model defines what happens in a world, and
+-- mesh_meaning what the program's events, copies and answers mean.
+-- Seen: what is seen of a world, and what every world keeps.
 pub mod Seen
 -- Steps: what a step answers, and what is then seen of the world.
 pub mod Steps
@@ -10,7 +10,7 @@ pub mod CountsOfEvents
 pub mod Accounts
 -- AtOnce: a copy that is taken as soon as it is delivered.
 pub mod AtOnce
--- Kept: the world that nodes and a radio are, and how the code keeps one.
+-- Kept: the world of given nodes and a radio, and how the code keeps one.
 pub mod Kept
 -- Noted: how the kept sets follow the nodes. No public contract cites it.
 pub mod Noted

@@ -40,7 +40,7 @@ has_items (item ∷ items) = true
 abbrev pub has_below : ℕ → (ℕ → Bool) → Bool
 has_below size passes = is_some (least_from size 0 passes)
 
--- the sets once node x, of a mesh of so many nodes, has come to be n
+-- the sets once node x, of a mesh of this many nodes, has become n
 unfoldable pub ready_with : Ready → ℕ → NodeSeen → ℕ → Ready
 ready_with r x n nodes = record {
   turns = with_or_without (has_items n.items) r.turns x;
@@ -48,11 +48,11 @@ ready_with r x n nodes = record {
   asks = with_or_without (has_below nodes (may_ask n.core)) r.asks x;
 }
 
--- the sets once an item has joined the inbox of node x, of which nothing else is new
+-- the sets once an item has joined the inbox of node x, and nothing else of the node has changed
 abbrev pub with_turn : Ready → ℕ → Ready
 with_turn r x = record r { turns = sets.insert r.turns x }
 
--- these are all nodes of the mesh, and the sets are theirs
+-- these are all nodes of the mesh, and the sets say what they may do
 pub record AreReadyIn (mesh : Nodes) (nodes : List NodeSeen) (ready : Ready) : Type 0 where
   pub count : length nodes ≡ length mesh
   pub sets : IsReadyFor mesh nodes ready

@@ -21,11 +21,11 @@ use Rattle.mesh_world.specs.declared.parts.Parts.{Parts}
 use Rattle.mesh_world.specs.declared.steps.StepError.{StepError}
 use Rattle.mesh_world.specs.declared.event_counts.EventCounts.{EventCounts}
 
--- the world that they are
+-- the world of these parts
 abbrev pub seen_in : Parts → WorldSeen
 seen_in p = seen_of p.mesh (p.nodes).items p.radio p.steps
 
--- they are in order
+-- the parts are in order
 abbrev pub AreKept : Parts → Type 0
 AreKept p = IsKept p.mesh (p.nodes).items p.radio p.ready p.steps
 
@@ -35,8 +35,8 @@ pub record IsDoneTo (e : Event) (old : Parts) (answer : Result Done StepError) (
   pub step : IsStep e (seen_in old) answer (seen_in new) packet
   pub kept : AreKept new
 
--- an event was done to the parts, or refused: its counts were answered, and where it is wanted the
--- answer is what was left
+-- an event was done to the parts, or refused: its counts, or the refusal, are the result; and if
+-- the answer is wanted, it is what was left
 pub record IsToldTo (e : Event) (old : Parts) (wanted : Bool)
     (result : Result EventCounts StepError) (left : Done) (new : Parts) (packet : List ℕ)
     : Type 0 where
@@ -46,7 +46,7 @@ pub record IsToldTo (e : Event) (old : Parts) (wanted : Bool)
   pub told : wanted ≡ true → answer_with result left ≡ answer
 
 -- the copy of this id was delivered, and node `to` took it: between the two events the parts are in
--- order, and no node before that one may take a turn
+-- order, and no node before `to` may take a turn
 pub record IsTakenFrom (id : ℕ) (old : Parts) (to : ℕ) (event_counts : EventCounts) (new : Parts)
     (packet : List ℕ) : Type 0 where
   pub from : ℕ
@@ -70,16 +70,16 @@ abbrev pub AreOpened : Variant → Nodes → ℕ → List NodeSeen → Type 0
 AreOpened v mesh me [] = ⊤
 AreOpened v mesh me (n ∷ ns) = IsOpened v mesh me n × AreOpened v mesh (me + 1) ns
 
--- those of the nodes in range to whom a cast goes
+-- the nodes in range to which a cast goes
 abbrev pub near_receivers : Nodes → NodeIds → Cast → List ℕ → NodeIds
 near_receivers mesh range cast packet = receivers range (cast_in mesh cast packet)
 
--- the radio after such a cast of node x
+-- the radio after such a cast by node x
 abbrev pub with_cast : Nodes → RadioState → ℕ → NodeIds → Cast → List ℕ → RadioState
 with_cast mesh radio x range cast packet =
     with_copies radio x packet (near_receivers mesh range cast packet)
 
--- the copies of it
+-- the copies of such a cast
 abbrev pub air_of : Nodes → RadioState → NodeIds → Cast → List ℕ → Air
 air_of mesh radio range cast packet = record {
   first = radio.next_copy;

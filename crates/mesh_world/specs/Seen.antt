@@ -22,7 +22,7 @@ pub record WorldSeen : Type 0 where
   pub world : World
   pub steps : ℕ
 
--- before the first step, where all nodes run this variant
+-- the world before the first step, in which all nodes run this variant
 abbrev pub opening : Variant → Nodes → WorldSeen
 opening v mesh = record { mesh = mesh; world = start v (first_numbers mesh); steps = 0 }
 
@@ -46,9 +46,9 @@ most_data_at_first = 2 ^ 60
 abbrev pub data_of : World → ℕ
 data_of w = waiting any w + queued_data any w + in_flight any w
 
--- what every world of the program keeps: there is a node for each address of the mesh; what
--- excludes cycles, and that all is in its mesh; so no destination has a cycle, and quality rises
--- along edges between valid entries; and no step brings more than one datum
+-- what every world of the program keeps: there is a node for each address of the mesh; the
+-- invariant holds; so no destination has a cycle, and along edges between valid entries the next
+-- one is the better; a step brings at most one datum; and there were at most 2^48 steps
 pub record IsSoundWorld (w : WorldSeen) : Type 0 where
   pub mesh : IsMesh w.mesh
   pub some : 1 ≤ length w.mesh

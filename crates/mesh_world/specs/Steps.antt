@@ -10,7 +10,8 @@ use Rattle.mesh_world.specs.declared.steps.StepError.{StepError}
 use Rattle.mesh_world.specs.declared.steps.StepError.TheVariants as errors
 
 -- the event was done, or wasn't enabled: the answer, with the packet that was cast, says what came
--- of it by the model's step; the world is the one after that; all that is named is in the mesh
+-- of it in the model's step; the new world is the one after that step; and all that the answer
+-- names is in the mesh
 pub record IsDone (e : Event) (old : WorldSeen) (d : Done) (new : WorldSeen) (packet : List ℕ)
     : Type 0 where
   pub outcome : step old.world e ≡ outcome_in old.mesh (node_of e) new.world d packet
@@ -40,6 +41,6 @@ changes_link others = false
 abbrev pub may_need_memory : World → Event → Bool
 may_need_memory w e = not (changes_link e || is_idle (step w e))
 
--- want of memory is answered only to an event that may ask for some
+-- a lack of memory is answered only to an event that may ask for some
 abbrev pub IsShortOf : {A : Type 0} → World → Event → Result A StepError → Type 0
 IsShortOf w e answer = IsErrOf answer errors.NoMemory → may_need_memory w e ≡ true

@@ -1,5 +1,5 @@
-//! What may be done next: of each kind of step the first, at the least node and destination. It is
-//! read off the sets that a world keeps, and no node is searched for.
+//! What may be done next: the first step of each kind, at the least node and destination. The node
+//! is read from the sets that a world keeps, and not searched for.
 ghost use Rattle.std.specs.Prelude.{◌≡◌, ◌<◌, List, length, IfSome};
 ghost use Rattle.mesh_base.specs.Meshes.{Nodes};
 ghost use Rattle.aodv_node.specs.Seen.{NodeSeen};

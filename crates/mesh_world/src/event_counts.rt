@@ -23,17 +23,17 @@ pub enum EventCounts {
     Idle,
     /// A datum was given, or a link changed.
     Changed,
-    /// A node took an item, with a datum that was delivered or dropped.
+    /// A node took an item. Whether a datum was delivered, and whether one was dropped.
     Taken { delivered: bool, dropped: bool },
-    /// A copy was lost, of a data packet or another.
+    /// A copy was lost. Whether it was of a data packet.
     Lost { parcel: bool },
-    /// A copy was doubled, of a data packet or another.
+    /// A copy was doubled. Whether it was of a data packet.
     Doubled { parcel: bool },
     /// A packet was sent, or a copy came to its receiver: nothing but the event is counted.
     Moved,
 }
 
-// Whether what was taken is a datum of the node's own, or a packet with one.
+// Whether what was taken is a datum of the node's own, or a data packet.
 fn is_own_or_data(took: &Took) -> bool
     ensures { (mesh : Nodes) (x : ℕ) → IsTookInMesh mesh took.now
         → in_taken any x (took_in mesh took.now) ≡ count_of result }
@@ -45,7 +45,7 @@ fn is_own_or_data(took: &Took) -> bool
     }
 }
 
-// Whether what was taken is a packet with a datum.
+// Whether what was taken is a data packet.
 fn is_heard_data(took: &Took) -> bool
     ensures { (mesh : Nodes) → IsTookInMesh mesh took.now
         → in_dropped any (took_in mesh took.now) ≡ count_of result }
@@ -57,7 +57,7 @@ fn is_heard_data(took: &Took) -> bool
     }
 }
 
-// Whether a datum was delivered. Only a turn takes something.
+// Whether a datum was delivered. Only a turn delivers.
 fn delivers(done: &Done) -> bool
     ensures { (mesh : Nodes) (x : ℕ) (old new : World) (packet : List ℕ) (e : an_event)
         → IsDoneInMesh mesh done.now packet
@@ -93,7 +93,7 @@ fn drops(done: &Done) -> bool
     }
 }
 
-// Whether a packet of this kind, which was heard and taken, has a datum.
+// Whether a packet of this kind, which was heard and taken, carries a datum.
 fn has_datum(kind: Kind) -> bool
     ensures taken { (mesh : Nodes) (x from : ℕ) (bytes : List ℕ)
         → IsTookInMesh mesh (takes.Heard from kind bytes)
@@ -105,7 +105,7 @@ fn has_datum(kind: Kind) -> bool
     kind == Kind::Data
 }
 
-// Whether a datum was delivered, where a packet of this kind was heard and taken.
+// Whether a datum was delivered when a packet of this kind was heard and taken.
 fn delivers_heard(kind: Kind, effect: &Effect) -> bool
     ensures { (from : ℕ) (bytes : List ℕ) (air : Air) (mesh : Nodes) (x : ℕ) (old new : World)
         (packet : List ℕ) (e : an_event)
@@ -117,7 +117,7 @@ fn delivers_heard(kind: Kind, effect: &Effect) -> bool
     effect.deliver && has_datum(kind)
 }
 
-// Whether one was dropped.
+// Whether a datum was dropped when a packet of this kind was heard and taken.
 fn drops_heard(kind: Kind, effect: &Effect) -> bool
     ensures { (from : ℕ) (bytes : List ℕ) (air : Air) (mesh : Nodes) (x : ℕ) (w : World)
         (packet : List ℕ) (e : an_event)
@@ -159,9 +159,9 @@ pub fn event_counts_of(done: &Done) -> EventCounts
     }
 }
 
-/// Answers what is counted of an event that was done, and leaves what came of it in `answer` where
-/// that is wanted. It is part of each function that does an event, so that no answer is put
-/// together that nobody wants.
+/// Returns what is counted of an event that was done, and leaves what came of it in `answer` if
+/// that is wanted. It is inlined into each function that does an event, so that no answer is put
+/// together unless it is wanted.
 #[inline(always)]
 pub(crate) fn tell(wanted: bool, answer: &mut Done, done: Done) -> Result<EventCounts, StepError>
     ensures event_counts { HasEventCounts (Ok done) result }
@@ -175,7 +175,7 @@ pub(crate) fn tell(wanted: bool, answer: &mut Done, done: Done) -> Result<EventC
     Ok(event_counts)
 }
 
-/// The same of an answer that is given, or a refusal.
+/// `tell` for an answer that is given, or for a refusal.
 pub(crate) fn tell_answer(
     wanted: bool,
     answer: &mut Done,

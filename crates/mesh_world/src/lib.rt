@@ -1,6 +1,6 @@
-//! All nodes of a mesh and the radio between them: the world of the emulator. One step is one
-//! event, and is the definitions' step (mesh_model), so that no world ever has a cycle of next
-//! hops, and no datum is invented or lost unseen.
+//! All nodes of a mesh and the radio between them: the world of the emulator. A step does one
+//! event, as the definitions' step (mesh_model) does, so that no world ever has a cycle of next
+//! hops, and no datum is invented, or lost without being counted.
 #![tactic(auto)]
 
 mod choices;

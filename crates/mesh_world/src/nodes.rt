@@ -1,4 +1,4 @@
-//! An owned list of nodes, of which a world is made.
+//! An owned list of nodes, from which a world is made.
 ghost use Rattle.std.specs.Prelude.{◌≡◌, ◌<◌, ◌≤◌, ◌+◌, ◌-◌, ◌∷◌, ◌++◌, [], length, IsOk, OnOk, OnErr};
 
 use aodv_node::Node;
@@ -6,7 +6,7 @@ use mesh_base::NoMemory;
 use std::alloc::Global;
 use std::marker::Model;
 
-/// An owned list of nodes. Room is made before a node comes, so that its coming takes no memory.
+/// An owned list of nodes. Room is made before a node is added, so that adding it takes no memory.
 #[derive(Drop)]
 pub struct Nodes {
     items: Vec<Node>,
@@ -28,7 +28,7 @@ impl Model for Nodes {
 }
 
 impl Nodes {
-    /// No node. It takes no memory.
+    /// No nodes. This takes no memory.
     pub fn new(alloc: Global) -> Nodes
         ensures { result.nodes ≡ [] }
     {
@@ -37,7 +37,7 @@ impl Nodes {
         }
     }
 
-    /// Makes room for one more node. It asks for memory only where there is none.
+    /// Makes room for one more node. It asks for memory only if there is no room.
     pub fn make_room(&mut self) -> Result<(), NoMemory>
         ensures nodes { self.new.nodes ≡ self.old.nodes }
         ensures here { OnOk result (0 < self.new.room) }
@@ -49,7 +49,7 @@ impl Nodes {
         Ok(())
     }
 
-    /// Puts a node at the end. It uses up the room for one.
+    /// Adds a node at the end, which uses up the room for one.
     pub fn push(&mut self, node: Node)
         requires { 0 < self.old.room }
         ensures nodes { self.new.nodes ≡ self.old.nodes ++ node ∷ [] }

@@ -40,7 +40,7 @@ impl Ready {
         }
     }
 
-    /// Notes what node x, of so many nodes, may do now.
+    /// Notes what node x, one of this many nodes, may do now.
     #[inline(always)]
     pub(crate) fn note(&mut self, x: usize, node: &Node, nodes: usize)
         requires { x < 256 }
@@ -51,7 +51,7 @@ impl Ready {
         put(&mut self.asks, x, has_below(&node.askable(), nodes));
     }
 
-    /// Notes that an item has joined the inbox of node x, of which nothing else is new.
+    /// Notes that an item has joined the inbox of node x. Nothing else of the node has changed.
     pub(crate) fn note_item(&mut self, x: usize)
         requires { x < 256 }
         ensures { self.new ≡ with_turn self.old x }

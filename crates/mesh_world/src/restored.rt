@@ -1,4 +1,4 @@
-//! Which parts are those of a world, and what may be done next with them.
+//! Whether given parts are those of a world, and what their nodes may do next.
 ghost use Rattle.std.specs.Prelude.{◌≡◌, length, IfSome, IfNone};
 ghost use Rattle.std.specs.List.{AllByRecursion};
 ghost use Rattle.aodv_node.specs.Seen.{IsSoundNode};
@@ -16,16 +16,16 @@ use thiserror::Error;
 /// A part that isn't as in a world.
 #[derive(Clone, Copy, Debug, PartialEq, Eq, Error)]
 pub enum Part {
-    /// The state of this node, by its table alone: what else it has is in order once it is read.
+    /// The state of this node, because of its table alone: the rest is in order once it is read.
     #[error("a node's state is out of order")]
     Node { node: usize },
     /// An item in an inbox, or a copy in flight: no node of the mesh writes such a packet.
     #[error("a packet is not as a node writes it")]
     Item,
-    /// A route request tells more of its sender's table than there is.
+    /// A route request says more than its sender's table has.
     #[error("a request tells more than its sender knows")]
     Request,
-    /// A route reply does.
+    /// A route reply says more than its sender's table has.
     #[error("a reply tells more than its sender knows")]
     Reply,
     /// The valid entry of this node for this destination isn't backed by the table of its next hop.
@@ -34,7 +34,7 @@ pub enum Part {
 }
 
 /// The first part that isn't as in a world, if there is one. Each item and each copy is looked at
-/// three times, and each entry once.
+/// up to three times, and each entry once, with that of its next hop.
 pub(crate) fn first_unsound(mesh: &Mesh, nodes: &[Node], radio: &Radio) -> Option<Part>
     requires nodes { AreOf mesh.now nodes.now }
     requires size { radio.now.size ≡ length mesh.now }
@@ -64,7 +64,7 @@ pub(crate) fn ready_for(mesh: &Mesh, nodes: &[Node]) -> Ready
     let mut ready = Ready::new();
     for x in 0..count {
         let node = &nodes[x];
-        // What is read of a node is in order.
+        // The contract of `sn` says that the node is in order.
         let _number = node.sn();
         ready.note(x, node, count);
     }

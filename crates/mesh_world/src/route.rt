@@ -10,14 +10,14 @@ use aodv_node::Node;
 /// Where a route ends.
 #[derive(Clone, Copy, Debug, PartialEq, Eq)]
 pub enum End {
-    /// At its destination, after so many hops.
+    /// At its destination, after this many hops.
     Arrived { hops: usize },
-    /// At another node, after so many hops: this node has no valid entry for the destination.
+    /// At another node, after this many hops: that node has no valid entry for the destination.
     Stuck { at: usize, hops: usize },
 }
 
-/// Goes from each node to the next hop of its valid entry for `to`, until it comes there or a node
-/// has none. It remembers no node: no route goes round.
+/// Goes from each node to the next hop of its valid entry for `to`, until it arrives there or a
+/// node has no such entry. It needn't remember the nodes: routes form no cycle.
 pub(crate) fn follow(nodes: &[Node], from: usize, to: usize) -> End
     requires nodes { AreOfWorld nodes.now }
     requires from { from < length nodes.now }

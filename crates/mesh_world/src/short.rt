@@ -9,7 +9,7 @@ use crate::parts::Parts;
 use mesh_base::Event;
 
 impl Parts {
-    /// Whether the event may ask for memory. It is looked at only where memory was short.
+    /// Whether the event may ask for memory. This is asked only after memory was short.
     #[cold]
     #[inline(never)]
     pub fn may_need_memory(&self, e: &Event<'_>) -> bool

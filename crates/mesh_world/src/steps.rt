@@ -1,4 +1,4 @@
-//! What steps a world.
+//! How a world takes steps.
 ghost use Rattle.std.specs.Prelude.{◌≡◌, ◌≤◌, ◌<◌, ◌+◌, length, true, None, IfOk, IfSome};
 ghost use Rattle.mesh_base.specs.Bounds.{most_steps};
 ghost use Rattle.mesh_base.specs.declared.events.Variant.TheVariants.{Base};
@@ -17,13 +17,13 @@ use mesh_base::{Counter, Done, Event, Mesh, NoMemory, Packet, Variant};
 use std::alloc::Global;
 use thiserror::Error;
 
-/// Why an event isn't done. The world is then as it was.
+/// Why an event wasn't done. The world is then as it was.
 #[derive(Clone, Copy, Debug, PartialEq, Eq, Error)]
 pub enum StepError {
     /// The node's step would raise this counter past its field's greatest value.
     #[error("a counter is full")]
     Full { node: usize, field: Counter },
-    /// Memory was asked for and not found.
+    /// There was not enough memory.
     #[error("no memory")]
     NoMemory,
 }
@@ -39,13 +39,13 @@ impl From<NoMemory> for StepError {
     }
 }
 
-/// A world that takes steps, however much more it keeps beside it.
+/// A world that takes steps, whatever else is kept with it.
 pub trait Steps: Drop {
     /// The world.
     ghost seen: { Self → WorldSeen };
 
-    /// The opening world, where all nodes run this variant of the protocol: each node has its first
-    /// sequence number and nothing else, no link stands, and no copy is in flight.
+    /// The opening world, in which all nodes run this variant of the protocol: each node has its
+    /// first sequence number and nothing else, no link stands, and no copy is in flight.
     fn with(alloc: Global, mesh: &Mesh, variant: Variant) -> Result<Self, NoMemory>
         requires { 1 ≤ length mesh.now }
         ensures { IfOk result (λ world. seen world ≡ opening variant mesh.now) };
@@ -59,9 +59,9 @@ pub trait Steps: Drop {
     }
 
     /// Does one event. All memory is taken before the first change. The packet that is cast is left
-    /// in `out`. Each datum that was in the world, or was given or doubled, is in the world then,
-    /// or was delivered or dropped. No step ends at 2^48 steps, which is more than any schedule
-    /// asks for.
+    /// in `out`. Each datum that was in the world, or was given or doubled, is in the world
+    /// afterwards, or was delivered or dropped. A world takes at most 2^48 steps, which is more
+    /// than any schedule asks for.
     fn step(&mut self, alloc: Global, e: &Event<'_>, out: &mut Packet) -> Result<Done, StepError>
         requires event { IsEvent (length (seen self.old).mesh) (event_of e.now) }
         requires few { (seen self.old).steps < most_steps }
@@ -70,8 +70,8 @@ pub trait Steps: Drop {
         ensures account { KeepsAccount (event_of e.now) (seen self.old) result (seen self.new) }
         ensures sound { IsSoundWorld (seen self.new) };
 
-    /// Does one event, as `step` does, and answers what is counted of it. What came of it is left
-    /// in `answer` where it is wanted; else `answer` may hold any answer.
+    /// Does one event, as `step` does, and answers what is counted of it. If `wanted`, what came of
+    /// the event is left in `answer`; else `answer` may hold any answer.
     fn step_counted(
         &mut self,
         alloc: Global,
@@ -92,10 +92,10 @@ pub trait Steps: Drop {
         tell_answer(wanted, answer, given)
     }
 
-    /// Does two events as one, where no node may take a turn: the copy of this id is delivered, and
-    /// its receiver takes it. The answer is the receiver, and what is counted of its turn. None
-    /// where this isn't done, whatever the cause is: the world is as it was, and the events are
-    /// left to `step`, which says why one is refused. Afterwards `out` may hold any packet.
+    /// Does two events as one, when no node may take a turn: the copy of this id is delivered, and
+    /// its receiver takes it. The answer is the receiver, and what is counted of its turn. None if
+    /// this isn't done, whatever the cause is: the world is as it was, and the events are left to
+    /// `step`, which says why one is refused. Afterwards `out` may hold any packet.
     fn take_copy(&mut self, id: u64, out: &mut Packet) -> Option<(usize, EventCounts)>
         requires few { (seen self.old).steps + 1 < most_steps }
         requires idle { first_turn (seen self.old).world ≡ None }

@@ -72,7 +72,7 @@ fn count_queued(inbox: &Inbox) -> u64
     count
 }
 
-// Whether the item is a datum, or a datum's packet.
+// Whether the item is a datum, or a data packet.
 fn has_datum(item: &Item) -> bool
     ensures { result ≡ has_datum item.now }
 {

@@ -54,11 +54,11 @@ impl Model for World {
 }
 
 impl World {
-    /// The world of these parts, after so many steps, if all is as in a world; else the first part
-    /// that isn't: an item or a copy, a request, a reply, or the entry of the least node for the
-    /// least destination. It is never `Part::Node`, since a node is in order by itself. The nodes
-    /// are those of the mesh in order, all of this variant, and fewer than 2^60 data are in their
-    /// stores, in inboxes and in flight. It takes no memory, and what is refused is dropped.
+    /// The world of these parts, after this many steps, if all parts are as in a world; else the
+    /// first that isn't: an item or a copy, a request, a reply, or the entry of the least node for
+    /// its least destination. It is never `Part::Node`, since every node is in order by itself. The
+    /// nodes are those of the mesh in order, all of this variant, and fewer than 2^60 data are in
+    /// their stores, in inboxes and in flight. This takes no memory, and drops what it refuses.
     pub fn from_parts(
         mesh: &Mesh,
         variant: Variant,
@@ -82,8 +82,8 @@ impl World {
             return Err(part);
         }
         let ready = ready_for(mesh, &nodes);
-        // They say that the mesh's addresses rise, and that copies are numbered in order and
-        // between nodes of the mesh, as links are.
+        // The contracts of these calls say that the mesh's addresses rise, and that copies are
+        // numbered in order and between nodes of the mesh, as links are.
         let _nodes = mesh.len();
         let _copies = radio.count();
         let parts = Parts {
@@ -181,8 +181,8 @@ impl World {
         follow(&self.parts.nodes, from, to)
     }
 
-    /// How many data there are, and where. All destinations with data, items and copies are looked
-    /// at.
+    /// How many data there are, and where. All destinations with data and all items are looked at,
+    /// but no copies.
     pub fn totals(&self) -> Totals
         ensures waiting { result.waiting ≡ accounts.waiting any self.now.world }
         ensures queued { result.queued ≡ accounts.queued_data any self.now.world }
@@ -208,8 +208,8 @@ impl Steps for World {
         Ok(World { parts })
     }
 
-    /// Want of memory is answered only to an event that is enabled, or refused for a full counter,
-    /// and is no change of a link.
+    /// `NoMemory` is answered only to an event that is enabled, or would be refused for a full
+    /// counter, and that changes no link.
     #[inline(always)]
     fn step(&mut self, alloc: Global, e: &Event<'_>, out: &mut Packet) -> Result<Done, StepError>
         requires event { IsEvent (length self.old.mesh) (event_of e.now) }
@@ -226,8 +226,8 @@ impl Steps for World {
         }
     }
 
-    /// Want of memory is answered only to an event that is enabled, or refused for a full counter,
-    /// and is no change of a link.
+    /// `NoMemory` is answered only to an event that is enabled, or would be refused for a full
+    /// counter, and that changes no link.
     #[inline(always)]
     fn step_counted(
         &mut self,
