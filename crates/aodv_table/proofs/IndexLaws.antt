@@ -11,7 +11,7 @@ use Rattle.mesh_base.specs.Members.{NodeIds}
 use Rattle.aodv_model.specs.declared.entry.Entry.{Entry}
 use Rattle.aodv_model.specs.Tables.{Table, is_valid_in}
 use Rattle.aodv_table.specs.Calls.{IsBelow, with_entry, valid_dests, nodes_below, is_neighbour_entry, is_neighbour_in}
-use Rattle.aodv_table.specs.Indexed.{entries_from, AreIndexed, AreNeighbours}
+use Rattle.aodv_table.specs.Indexed.{entries_from, AreEmpty, AreIndexed, AreNeighbours}
 use Rattle.aodv_table.proofs.Lookups.{get-with_entry, same_table}
 use Rattle.aodv_table.proofs.RowLaws.{marked, marked_valid, none_valid, contains-marked}
 
@@ -37,11 +37,6 @@ get-entries_from d (row ∷ rows) (suc k) =
 get-rows : (rows : Rows) (q : ℕ) → maps.get (entries_from 0 rows) q ≡ get_or rows q None
 get-rows rows q = ap (maps.get (entries_from 0 rows)) (sym (zero-add q)) ∙ get-entries_from 0 rows q
 
-by_default : (rows : Rows) (d : ℕ) (x y : Option Entry) → d < length rows → get_or rows d x ≡ get_or rows d y
-by_default [] d x y lt = absurd (omega arith)
-by_default (row ∷ rows) zero x y lt = refl
-by_default (row ∷ rows) (suc d) x y lt = by_default rows d x y (omega arith)
-
 past_rows : (rows : Rows) (d : ℕ) → length rows ≤ d → get_or rows d None ≡ None
 past_rows [] zero le = refl
 past_rows [] (suc d) le = refl
@@ -49,8 +44,8 @@ past_rows (row ∷ rows) zero le = absurd (omega arith)
 past_rows (row ∷ rows) (suc d) le = past_rows rows d (omega arith)
 
 -- what is read at a row
-pub row_read : (rows : Rows) (d : ℕ) (x : Option Entry) (rt : Table) → entries_from 0 rows ≡ rt → d < length rows → x ≡ get_or rows d x → x ≡ maps.get rt d
-row_read rows d x rt shown lt is = is ∙ by_default rows d x None lt ∙ sym (get-rows rows d) ∙ ap (λ (t : Table). maps.get t d) shown
+pub row_read : (rows : Rows) (d : ℕ) (rt : Table) → entries_from 0 rows ≡ rt → get_or rows d None ≡ maps.get rt d
+row_read rows d rt shown = sym (get-rows rows d) ∙ ap (λ (t : Table). maps.get t d) shown
 
 -- no entry stands from the number of nodes on
 pub rows_end : (nodes seen : ℕ) (rows : Rows) (rt : Table) → entries_from 0 rows ≡ rt → nodes ≡ seen → length rows ≡ nodes → IsBelow seen rt
@@ -98,12 +93,8 @@ indexed_kept nodes rows valid valid' near near' d o are lt marks marks_near =
 
 -- ---- no entries
 
-abbrev pub AreEmpty : Rows → Type 0
-AreEmpty [] = Unit {0}
-AreEmpty (row ∷ rows) = (row ≡ None) × AreEmpty rows
-
-pub one_more : (rows rows' : Rows) (n : ℕ) → rows' ≡ rows ++ None ∷ [] → length rows ≡ n → length rows' ≡ n + 1
-one_more rows rows' n is each = ap length is ∙ length-append rows (None ∷ []) ∙ ap (λ k. k + 1) each
+pub one_more : {A : Type 0} → (xs xs' : List A) (x : A) (n : ℕ) → xs' ≡ xs ++ x ∷ [] → length xs ≡ n → length xs' ≡ n + 1
+one_more xs xs' x n is each = ap length is ∙ length-append xs (x ∷ []) ∙ ap (λ k. k + 1) each
 
 pub empty_more : (rows rows' : Rows) → rows' ≡ rows ++ None ∷ [] → AreEmpty rows → AreEmpty rows'
 empty_more rows rows' is none = subst AreEmpty (sym is) (along rows none)

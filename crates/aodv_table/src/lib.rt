@@ -8,6 +8,7 @@
 mod merge;
 mod plain;
 mod row;
+mod row_list;
 mod rows;
 mod table;
 

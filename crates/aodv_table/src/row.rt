@@ -1,13 +1,15 @@
 //! A row of a table.
 ghost use Rattle.std.specs.Prelude.{◌≡◌};
+ghost use Rattle.std.specs.FinSet as sets;
+ghost use Rattle.aodv_table.specs.Indexed.{with_precursors};
 
 use aodv_model::{Entry, Flag, Known};
 use mesh_base::NodeSet;
 use std::marker::Model;
 
-/// A row, seen as the entry that it holds, or none. Whether it holds one is kept in a byte that the
-/// fields of an entry leave free: an `Option` would take a word more in each row. In a row without
-/// an entry the other fields mean nothing.
+/// A row, seen as the entry that it holds without the entry's precursors, or as none. Whether it
+/// holds one is kept in a byte that the fields of an entry leave free: an `Option` would take a word
+/// more in each row. In a row without an entry the other fields mean nothing.
 #[derive(Drop)]
 pub(crate) struct Row {
     dsn: u32,
@@ -16,12 +18,12 @@ pub(crate) struct Row {
     hops: u8,
     there: bool,
     next: usize,
-    pre: NodeSet,
 }
 
 impl Model for Row {
     ghost use Rattle.std.specs.Prelude.{Option, Some, None, if◌then◌else◌};
     ghost use Rattle.std.specs.Coded.{coded_option};
+    ghost use Rattle.std.specs.FinSet as sets;
     ghost use Rattle.aodv_model.specs.declared.entry.Entry.{Entry};
     ghost use Rattle.aodv_model.specs.Codes.{entry_code};
 
@@ -35,15 +37,15 @@ impl Model for Row {
       flag = r.flag;
       hops = r.hops;
       next = r.next;
-      pre = r.pre;
+      pre = sets.empty;
     }) else None };
 }
 
 impl Row {
-    /// A row with this entry, or with none.
+    /// A row with this entry, without its precursors; or a row with none.
     #[inline(always)]
     pub fn new(entry: Option<Entry>) -> Row
-        ensures { result ≡ entry }
+        ensures { result ≡ with_precursors entry sets.empty }
     {
         match entry {
             Some(e) => Row {
@@ -53,7 +55,6 @@ impl Row {
                 hops: e.hops,
                 there: true,
                 next: e.next,
-                pre: e.pre,
             },
             None => Row {
                 dsn: 0,
@@ -62,15 +63,14 @@ impl Row {
                 hops: 0,
                 there: false,
                 next: 0,
-                pre: NodeSet::new(),
             },
         }
     }
 
-    /// The entry that the row holds, if any.
+    /// The entry that the row holds, if any, with these precursors.
     #[inline(always)]
-    pub fn entry(&self) -> Option<Entry>
-        ensures { result ≡ self.now }
+    pub fn entry(&self, precursors: &NodeSet) -> Option<Entry>
+        ensures { result ≡ with_precursors self.now precursors.now }
     {
         if !self.there {
             return None;
@@ -81,7 +81,7 @@ impl Row {
             flag: self.flag,
             hops: self.hops,
             next: self.next,
-            pre: self.pre,
+            pre: *precursors,
         })
     }
 }

@@ -6,7 +6,7 @@ ghost use Rattle.aodv_table.specs.Calls.{IsBelow, nodes_below};
 ghost use Rattle.aodv_table.specs.Seen.{without_entries};
 
 use crate::merge::{mark_neighbour, mark_valid};
-use crate::row::Row;
+use crate::row_list::RowList;
 use crate::table::Table;
 use aodv_model::Entry;
 use mesh_base::{MOST_NODES, NoMemory, NodeSet};
@@ -20,7 +20,7 @@ use std::marker::Model;
 #[derive(Drop)]
 pub struct RowTable {
     neighbours: NodeSet,
-    rows: Vec<Row>,
+    rows: RowList,
     nodes: usize,
     valid: NodeSet,
 }
@@ -35,12 +35,12 @@ impl Model for RowTable {
     ghost coded = { seen_code };
 
     ghost view = { λ t. record {
-      entries = entries_from 0 t.rows.items;
+      entries = entries_from 0 t.rows;
       rooms = nodes_below t.nodes;
       nodes = t.nodes;
     } };
 
-    ghost invariant = { λ t. AreIndexed t.nodes t.rows.items t.valid t.neighbours };
+    ghost invariant = { λ t. AreIndexed t.nodes t.rows t.valid t.neighbours };
 }
 
 impl RowTable {
@@ -50,13 +50,9 @@ impl RowTable {
         requires { nodes ≤ MOST_NODES }
         ensures { IfOk result (λ t. t ≡ without_entries (nodes_below nodes) nodes) }
     {
-        let mut rows = Vec::with_capacity(alloc, nodes)?;
-        for _ in 0..nodes {
-            rows.push(Row::new(None))?;
-        }
         Ok(RowTable {
             nodes,
-            rows,
+            rows: RowList::new(alloc, nodes)?,
             valid: NodeSet::new(),
             neighbours: NodeSet::new(),
         })
@@ -81,7 +77,7 @@ impl Table for RowTable {
 
     #[inline(always)]
     fn get(&self, d: usize) -> Option<Entry> {
-        self.rows[d].entry()
+        self.rows.entry(d)
     }
 
     fn has_room(&self, d: usize) -> bool {
@@ -105,8 +101,9 @@ impl Table for RowTable {
         Ok(())
     }
 
+    #[inline(always)]
     fn put(&mut self, d: usize, e: Option<Entry>) {
-        self.rows[d] = Row::new(e);
+        self.rows.set(d, e);
         mark_valid(&mut self.valid, d, &e);
         mark_neighbour(&mut self.neighbours, d, &e);
     }

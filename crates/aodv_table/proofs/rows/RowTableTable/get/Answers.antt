@@ -5,8 +5,7 @@ use Rattle.aodv_table.proofs.rows.RowTableTable.get.Goals as goal
 
 pub returns-clause-value : goal.returns-clause-value
 returns-clause-value c =
-    let same : c.self.inside.nodes ≡ c.args.self.now.nodes = ap (λ (t : TableSeen). t.nodes) c.self.view_is in
-    c.entry.ensures ∙ row_read c.self.inside.rows.items c.args.d c.index.result.now c.args.self.now.entries (ap (λ (t : TableSeen). t.entries) c.self.view_is) (omega (arith, c.requires, c.self.invariant.each)) c.index.ensures
+    c.entry.ensures ∙ row_read c.self.inside.rows c.args.d c.args.self.now.entries (ap (λ (t : TableSeen). t.entries) c.self.view_is)
 
 pub returns-clause-room : goal.returns-clause-room
 returns-clause-room c =

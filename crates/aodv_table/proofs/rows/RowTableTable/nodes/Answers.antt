@@ -5,4 +5,4 @@ use Rattle.aodv_table.proofs.rows.RowTableTable.nodes.Goals as goal
 
 pub returns-clause-below : goal.returns-clause-below
 returns-clause-below c =
-    rows_end c.self.inside.nodes c.args.self.now.nodes c.self.inside.rows.items c.args.self.now.entries (ap (λ (t : TableSeen). t.entries) c.self.view_is) (ap (λ (t : TableSeen). t.nodes) c.self.view_is) c.self.invariant.each
+    rows_end c.self.inside.nodes c.args.self.now.nodes c.self.inside.rows c.args.self.now.entries (ap (λ (t : TableSeen). t.entries) c.self.view_is) (ap (λ (t : TableSeen). t.nodes) c.self.view_is) c.self.invariant.each
