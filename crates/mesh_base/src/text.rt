@@ -166,8 +166,8 @@ pub fn push_decimal(out: &mut LineBuf, n: u64)
 {
     if n < 10_000 {
         push_short(out, n as u32);
-    } else if n < 1_000_000 {
-        push_low(out, (n / 10_000) as u32);
+    } else if n < 100_000_000 {
+        push_short(out, (n / 10_000) as u32);
         push_four(out, (n % 10_000) as u32);
     } else {
         push_decimal(out, n / 10_000);

@@ -1,5 +1,5 @@
 //! Names of nodes, numbers and bytes, each appended to a line's buffer.
-ghost use Rattle.std.specs.Prelude.{◌≡◌, ◌+◌, ◌*◌, ◌<◌, ◌≤◌, ◌++◌, ◌∷◌, length};
+ghost use Rattle.std.specs.Prelude.{◌≡◌, ◌+◌, ◌*◌, ◌<◌, ◌≤◌, ◌++◌, ◌∷◌, [], length};
 ghost use Rattle.std.specs.List.{flat_map};
 ghost use Rattle.mesh_base.specs.Meshes.{Nodes};
 ghost use Rattle.aodv_meaning.specs.Meaning.{meaning};
@@ -102,9 +102,23 @@ fn push_hex_byte(out: &mut LineBuf, b: u8)
     out.push_array(&HEX[b as usize]);
 }
 
-/// Appends bytes in hexadecimal.
-#[inline]
-pub(crate) fn push_hex(out: &mut LineBuf, bytes: &[u8])
+// Appends the digits of four bytes at once.
+fn push_hex_four(out: &mut LineBuf, a: u8, b: u8, c: u8, d: u8)
+    requires room { length out.old + 8 ≤ LINE_CAPACITY }
+    ensures text { out.new ≡ out.old ++ hex (a ∷ b ∷ c ∷ d ∷ []) }
+    ensures length { length out.new ≡ length out.old + 8 }
+{
+    let digits = [
+        HEX[a as usize],
+        HEX[b as usize],
+        HEX[c as usize],
+        HEX[d as usize],
+    ];
+    out.push_slice(digits.as_flattened());
+}
+
+// Appends the digits of these bytes, one byte after another.
+fn push_hex_bytes(out: &mut LineBuf, bytes: &[u8])
     requires room { length out.old + 2 * length bytes.now ≤ LINE_CAPACITY }
     ensures text { out.new ≡ out.old ++ hex bytes.now }
     ensures length { length out.new ≡ length out.old + 2 * length bytes.now }
@@ -112,6 +126,21 @@ pub(crate) fn push_hex(out: &mut LineBuf, bytes: &[u8])
     for b in bytes {
         push_hex_byte(out, *b);
     }
+}
+
+/// Appends bytes in hexadecimal.
+#[inline]
+pub(crate) fn push_hex(out: &mut LineBuf, bytes: &[u8])
+    requires room { length out.old + 2 * length bytes.now ≤ LINE_CAPACITY }
+    ensures text { out.new ≡ out.old ++ hex bytes.now }
+    ensures length { length out.new ≡ length out.old + 2 * length bytes.now }
+{
+    let mut rest = bytes;
+    while let [a, b, c, d, more @ ..] = rest {
+        push_hex_four(out, *a, *b, *c, *d);
+        rest = more;
+    }
+    push_hex_bytes(out, rest);
 }
 
 /// Appends a space, a packet in hexadecimal, and the LF that ends the line.

@@ -1,9 +1,12 @@
-use Rattle.std.proofs.Common.{◌≡◌, ◌+◌, ◌*◌, ◌++◌, length, take}
+use Rattle.std.proofs.Common.{◌≡◌, ◌+◌, ◌*◌, ◌++◌, length}
 use Rattle.mesh_text.specs.Lines.{hex}
 use Rattle.mesh_report.proofs.text.push_hex.Given as goal
 
-abbrev pub invariant-loop-b : goal.invariant-loop-b
-invariant-loop-b l = record {
-  text : l.out ≡ l.initial.out ++ hex (take l.b-index l.bytes);
-  length : length l.out ≡ length l.initial.out + 2 * l.b-index;
+abbrev pub invariant-loop-rest : goal.invariant-loop-rest
+invariant-loop-rest l = record {
+  text : l.out ++ hex l.rest ≡ l.initial.out ++ hex l.bytes;
+  length : length l.out + 2 * length l.rest ≡ length l.initial.out + 2 * length l.bytes;
 }
+
+abbrev pub decreases-loop-rest : goal.decreases-loop-rest
+decreases-loop-rest l = length l.rest
