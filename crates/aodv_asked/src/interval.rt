@@ -6,7 +6,7 @@ ghost use Rattle.aodv_asked.specs.Spots.{IsPosition, total};
 ghost use Rattle.aodv_asked.specs.Tops.{no_top, ids_of, HasOneMore};
 
 /// The ids from `first` to `last`. If there are none, `first` is 1 and `last` is 0.
-#[derive(Clone, Copy, Default)]
+#[derive(Clone, Copy)]
 pub(crate) struct Interval {
     pub(crate) first: u32,
     pub(crate) last: u32,

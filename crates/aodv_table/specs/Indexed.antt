@@ -18,7 +18,8 @@ with_precursors (Some e) nodes = Some (record e { pre = nodes })
 unfoldable pub whole_rows : List (Option Entry) → List NodeIds → List (Option Entry)
 whole_rows [] precursors = []
 whole_rows (row ∷ rows) [] = []
-whole_rows (row ∷ rows) (nodes ∷ precursors) = with_precursors row nodes ∷ whole_rows rows precursors
+whole_rows (row ∷ rows) (nodes ∷ precursors) =
+    with_precursors row nodes ∷ whole_rows rows precursors
 
 -- no row has an entry
 abbrev pub AreEmpty : List (Option Entry) → Type 0

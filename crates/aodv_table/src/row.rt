@@ -8,8 +8,8 @@ use mesh_base::NodeSet;
 use std::marker::Model;
 
 /// A row, seen as the entry that it holds without the entry's precursors, or as none. Whether it
-/// holds one is kept in a byte that the fields of an entry leave free: an `Option` would take a word
-/// more in each row. In a row without an entry the other fields mean nothing.
+/// holds one is kept in a byte that the fields of an entry leave free: an `Option` would take a
+/// word more in each row. In a row without an entry the other fields mean nothing.
 #[derive(Drop)]
 pub(crate) struct Row {
     dsn: u32,

@@ -17,7 +17,7 @@ use Rattle.mesh_cli.specs.declared.words.Plan.{Plan}
 use Rattle.mesh_cli.specs.declared.words.Command.{Command}
 use Rattle.mesh_cli.specs.declared.words.Command.TheVariants.{Run, Make, Trial}
 use Rattle.mesh_cli.specs.Words.{IsAllowed}
-use Rattle.mesh_cli.specs.Does.{IsSoundRun, IsCommandRun, IsWritten, IsDoneOrShort, Completes, reads, made_by}
+use Rattle.mesh_cli.specs.Commands.{IsSoundRun, IsCommandRun, IsWritten, IsDoneOrShort, Completes, reads, made_by}
 
 no_bad : (c : Command) (left after a b : Option (List ℕ)) (s : Status) (n : ℕ) → IsAllowed c → IsCommandRun c left after a b s → reads c ≡ false → s ≢ status.BadLine n
 no_bad (Run variant quiet) left after a b s n allowed t reads_not e = cc

@@ -3,7 +3,7 @@ ghost use Rattle.std.specs.Prelude.{◌≡◌, ◌≢◌, ◌↔◌, ℕ, true, 
 ghost use Rattle.mesh_io.specs.Cause.{Rose};
 ghost use Rattle.mesh_run.specs.Causes.{HasStatusCause, HasSourceCause};
 ghost use Rattle.mesh_cli.specs.Words.{command_of, IsAllowed, IsPlan};
-ghost use Rattle.mesh_cli.specs.Does.{IsCommandRun, IsWritten, Completes, IsReadBy, reads, made_by};
+ghost use Rattle.mesh_cli.specs.Commands.{IsCommandRun, IsWritten, Completes, IsReadBy, reads, made_by};
 
 use crate::memory::Memory;
 use crate::schedule::run_schedule;

@@ -10,7 +10,7 @@ ghost use Rattle.mesh_run.specs.Causes.{HasStatusCause};
 ghost use Rattle.mesh_run.specs.Codes.{status_of};
 ghost use Rattle.mesh_run.specs.Outputs.{part, IsOutput};
 ghost use Rattle.mesh_cli.specs.Words.{IsPlan};
-ghost use Rattle.mesh_cli.specs.Does.{made_by};
+ghost use Rattle.mesh_cli.specs.Commands.{made_by};
 
 use crate::memory::Memory;
 use crate::words::Plan;

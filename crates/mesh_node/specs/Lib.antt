@@ -1,4 +1,4 @@
 -- Words: the port that is asked for.
 pub mod Words
--- Does: what the program has done at that port.
-pub mod Does
+-- Openings: what the program has done at that port.
+pub mod Openings

@@ -4,7 +4,7 @@ ghost use Rattle.std.specs.Io.KnownBytes.{IsAtEnd};
 ghost use Rattle.mesh_io.specs.Cause.{Rose};
 ghost use Rattle.mesh_router.specs.Output.{IsScriptRun};
 ghost use Rattle.mesh_node.specs.Words.{port_of};
-ghost use Rattle.mesh_node.specs.Does.{IsOpened, IsDecided};
+ghost use Rattle.mesh_node.specs.Openings.{IsOpened, IsDecided};
 
 use crate::words::port_of;
 use mesh_io::{Sink, Source};

@@ -137,8 +137,7 @@ fn push_drop(out: &mut LineBuf, took: &Took)
     }
 }
 
-// Appends the datum that node `me` took, if it was delivered or dropped. This doesn't depend on the
-// packet that was cast.
+// Appends the datum that node `me` took, if it was delivered or dropped, whatever was cast.
 fn push_fate(out: &mut LineBuf, mesh: &Mesh, me: usize, took: &Took, effect: &Effect)
     requires me { me < length mesh.now }
     requires took { IsTookLegible mesh.now took.now }
@@ -246,8 +245,7 @@ fn push_copy(out: &mut LineBuf, mesh: &Mesh, id: u64, to: usize)
     out.push(b'\n');
 }
 
-// Writes what the buffer has, and then the copies of a cast, one line each. They may be more than
-// the buffer has room for.
+// Writes what the buffer has, and then the copies of a cast, even more than it has room for.
 fn put_air<O: Sink>(mesh: &Mesh, air: &Air, buf: &mut LineBuf, out: &mut O) -> Result<(), PutFault>
     requires receivers { AreBelow (length mesh.now) air.now.to }
     requires few { air.now.first + MOST_NODES < 2 ^ 64 }
@@ -473,8 +471,7 @@ pub fn put_event<O: Sink>(
     put_after(mesh, e, done, packet, buf, out)
 }
 
-/// Writes the line of an event, given by its bytes, which are in canonical form already, and below
-/// it what the event did.
+/// Writes an event, given by the bytes of its canonical line, and below it what the event did.
 pub fn put_echoed_event<O: Sink>(
     bytes: &[u8],
     mesh: &Mesh,

@@ -25,7 +25,7 @@ pub(crate) fn push_name(out: &mut LineBuf, mesh: &Mesh, i: usize)
 }
 
 /// Appends a label, and a node's address.
-#[inline]
+#[inline(always)]
 pub(crate) fn push_one<const N: usize>(out: &mut LineBuf, label: &[u8; N], mesh: &Mesh, i: usize)
     requires node { i < length mesh.now }
     requires room { length out.old + length label.now + ADDRESS_WIDTH ≤ LINE_CAPACITY }
@@ -37,7 +37,7 @@ pub(crate) fn push_one<const N: usize>(out: &mut LineBuf, label: &[u8; N], mesh:
 }
 
 /// Appends a label, and two nodes' addresses with a space between them.
-#[inline]
+#[inline(always)]
 pub(crate) fn push_two<const N: usize>(
     out: &mut LineBuf,
     label: &[u8; N],
@@ -57,7 +57,7 @@ pub(crate) fn push_two<const N: usize>(
 }
 
 /// Appends a label, and a number.
-#[inline]
+#[inline(always)]
 pub(crate) fn push_labelled<const N: usize>(out: &mut LineBuf, label: &[u8; N], n: u64)
     requires room { length out.old + length label.now + NUMBER_WIDTH ≤ LINE_CAPACITY }
     ensures text { out.new ≡ out.old ++ label_number label.now n }

@@ -12,7 +12,7 @@ ghost use Rattle.mesh_meaning.specs.Events.{event_of};
 ghost use Rattle.mesh_world.specs.Seen.{WorldSeen, IsSoundWorld, node_in, data_of, most_data_at_first};
 ghost use Rattle.mesh_world.specs.Kept.{world_in, seen_of};
 ghost use Rattle.mesh_model.specs.Accounts.{any};
-ghost use Rattle.mesh_world.specs.Steps.{IsStep, IsShortOf, may_need_memory};
+ghost use Rattle.mesh_world.specs.Steps.{IsStep, IsShortOf};
 ghost use Rattle.mesh_world.specs.CountsOfEvents.{answer_with, IsStepCounted};
 ghost use Rattle.mesh_world.specs.Accounts.{KeepsAccount};
 ghost use Rattle.mesh_world.specs.Ends.{end_in, IsEndIn};
@@ -159,15 +159,6 @@ impl World {
             IfSome result (λ p. (p.0 < size) × (p.1 < size)) }
     {
         first_ask(&self.parts.ready, &self.parts.nodes)
-    }
-
-    /// Whether the event may ask for memory: it is enabled, or refused for a full counter, and
-    /// changes no link.
-    pub fn may_need_memory(&self, e: &Event<'_>) -> bool
-        requires { IsEvent (length self.now.mesh) (event_of e.now) }
-        ensures { result ≡ may_need_memory self.now.world (event_of e.now) }
-    {
-        self.parts.may_need_memory(e)
     }
 
     /// Where the route from one node to another ends.

@@ -8,7 +8,7 @@ use Rattle.mesh_run.specs.declared.status.Status.{Status}
 use Rattle.mesh_run.specs.declared.status.Status.TheVariants as status
 use Rattle.mesh_run.proofs.Loud.{sink_cause, read_failed}
 use Rattle.mesh_run.proofs.Scripts.{no_words}
-use Rattle.mesh_cli.specs.Does.{made_by}
+use Rattle.mesh_cli.specs.Commands.{made_by}
 use Rattle.mesh_cli.proofs.Trials.{told_as, told_whole}
 use Rattle.mesh_cli.proofs.trial.trial.Goals as goal
 
