@@ -8,21 +8,21 @@
  *
  * Ownership. A `struct aodv_router`, the handle, is the program's memory: zeros at first, which
  * hold nothing. aodv_new puts a router into it, and aodv_free takes it out. Only these functions
- * write to it. Its bytes may be moved to another place, and are never used at both. Bytes and
+ * write to it. Its bytes may be moved to another place, and must never be used at both. Bytes and
  * addresses that are handed over are copied, and outcomes, lists and rows are the program's own:
  * nothing that a call leaves points into the library.
  *
- * Lengths. Each pointer to many has a length behind it, in elements. It is never NULL, also where
- * its length is 0. In an outcome, a list and a row the first `.._len` elements count, and those
- * behind are 0.
+ * Lengths. Each pointer to an array is followed by its length, in elements. It is never NULL, even
+ * if the length is 0. In an outcome, a list and a row the first `.._len` elements count, and those
+ * after them are 0.
  *
  * Threads. The library has no state of its own and starts no thread. Different handles may be used
  * by different threads at the same time; one handle, outcome, list or row by one call at a time.
  *
  * Answers. Each call but aodv_version and aodv_free answers one of the codes below, and is done
- * where it answers AODV_DONE. After every other code the router, the outcome, the list, the row and
+ * if it answers AODV_DONE. After every other code the router, the outcome, the list, the row and
  * the number are as they were, with one exception: after AODV_UNREADABLE and AODV_NAMES_STRANGER
- * the packet is gone from the inbox. Memory is asked for in aodv_new, aodv_hear, aodv_give,
+ * the packet has been taken from the inbox. Memory is asked for in aodv_new, aodv_hear, aodv_give,
  * aodv_turn and aodv_ask alone. */
 #ifndef AODV_H
 #define AODV_H
@@ -35,8 +35,8 @@
 extern "C" {
 #endif
 
-/* The number of this interface, which changes where a call, a struct or a code does.
- * aodv_version() tells that of the library. */
+/* The number of this interface, which changes whenever a call, a struct or a code does.
+ * aodv_version() returns the library's. */
 #define AODV_VERSION 1
 
 /* The most addresses of a mesh, bytes of a packet that is cast, and bytes of a datum. */
@@ -71,7 +71,7 @@ enum {
 enum {
     AODV_BASE = 0,   /* as the process algebra AWN has AODV */
     AODV_NUMBER = 1, /* requests are told apart by their originator's number, not by their id */
-    AODV_REPLY = 2,  /* a reply is passed on wherever the router has a valid route of its own */
+    AODV_REPLY = 2,  /* a reply is passed on wherever the router has valid routes to both ends */
     AODV_ERROR = 3   /* route errors are broadcast */
 };
 
@@ -90,7 +90,7 @@ enum {
 enum {
     AODV_CAST_NOTHING = 0, /* there is no packet */
     AODV_CAST_ONE = 1,     /* to the neighbour to[0] */
-    AODV_CAST_MANY = 2,    /* to the neighbours of `to`, of which none may be near */
+    AODV_CAST_MANY = 2,    /* to the neighbours in `to`; perhaps none of them is near */
     AODV_CAST_ALL = 3      /* to all neighbours; `to` is empty */
 };
 
@@ -100,14 +100,14 @@ struct aodv_router {
     bool live;
 };
 
-/* What a turn, a send or a request has done. The packet is to be cast as it stands. */
+/* What a turn, a send or a request has done. The packet is to be cast unchanged. */
 struct aodv_outcome {
     uint32_t took;
     uint32_t from;  /* the neighbour that the packet came from, or 0 */
     uint32_t dest;  /* the destination of a datum that now waits, or 0 */
     bool delivered; /* the datum in `body` has come to its destination, which is this router */
-    bool lost;      /* a datum was dropped; where a turn took it, it is the one in `body` */
-    bool broken;    /* the next hop `broke` wasn't near, and the routes over it are gone */
+    bool lost;      /* a datum was dropped; if a turn took it, it is the one in `body` */
+    bool broken;    /* the next hop `broke` wasn't near, and the routes over it are invalid */
     uint32_t broke; /* or 0 */
     uint32_t cast;
     uint32_t to_len;
@@ -140,7 +140,7 @@ uint32_t aodv_version(void);
 
 /* Makes a router in a handle that holds nothing. The mesh has exactly the n addresses, each of them
  * once and at most 200; `me` is the router's own; `first` is its first sequence number, which has
- * to be above the last that it had where the router was there before. All routers of a mesh have
+ * to be above the last that it had if the router was in the mesh before. All routers of a mesh have
  * the same addresses and the same variant.
  * Refused, by the first that applies: AODV_HOLDS_ONE, AODV_NO_VARIANT, AODV_ZERO_NUMBER; AODV_TWICE
  * or AODV_TOO_MANY, at the first address that can't join those before it; AODV_NOT_THERE. Or
@@ -166,25 +166,25 @@ uint32_t aodv_give(struct aodv_router *handle, uint32_t dest, const uint8_t *bod
 uint32_t aodv_turn(struct aodv_router *handle, const uint32_t *near_addrs, size_t n,
                    struct aodv_outcome *out);
 
-/* Sends the first datum that waits for `dest` to the next hop, if there is a valid route. Where the
- * next hop isn't near the datum stays, and the routes over it are gone.
+/* Sends the first datum that waits for `dest` to the next hop, if there is a valid route. If the
+ * next hop isn't near the datum stays, and the routes over that hop become invalid.
  * Refused: AODV_HOLDS_NOTHING, AODV_STRANGER, AODV_IDLE, AODV_FULL_NUMBER. */
 uint32_t aodv_send(struct aodv_router *handle, const uint32_t *near_addrs, size_t n, uint32_t dest,
                    struct aodv_outcome *out);
 
-/* Asks all neighbours for a route to `dest`, if data wait for it, there is no valid route, and none
- * was asked for since the first of them came or a route broke.
+/* Asks all neighbours for a route to `dest`, if data wait for it, there is no valid route, and no
+ * request was made since the first of them came, the route broke or a route error told of it.
  * Refused: AODV_HOLDS_NOTHING, AODV_STRANGER, AODV_IDLE, AODV_FULL_.., AODV_NO_MEMORY. */
 uint32_t aodv_ask(struct aodv_router *handle, uint32_t dest, struct aodv_outcome *out);
 
-/* What may be done next. How many items wait in the inbox: while there is one, aodv_turn.
- * The addresses for which aodv_send, and those for which aodv_ask, isn't idle.
+/* What may be done next. aodv_items: how many items wait in the inbox; while any do, aodv_turn.
+ * aodv_sendable, aodv_askable: the addresses for which aodv_send, or aodv_ask, isn't idle.
  * Refused: AODV_HOLDS_NOTHING. */
 uint32_t aodv_items(struct aodv_router *handle, size_t *count);
 uint32_t aodv_sendable(struct aodv_router *handle, struct aodv_addrs *list);
 uint32_t aodv_askable(struct aodv_router *handle, struct aodv_addrs *list);
 
-/* The router's own sequence number: a router that is to begin again keeps it.
+/* The router's own sequence number: keep it for a router that is to begin again.
  * Refused: AODV_HOLDS_NOTHING. */
 uint32_t aodv_number(struct aodv_router *handle, uint32_t *number);
 
@@ -195,7 +195,7 @@ uint32_t aodv_entry(struct aodv_router *handle, uint32_t dest, struct aodv_row *
 uint32_t aodv_waiting(struct aodv_router *handle, uint32_t dest, size_t *count);
 
 /* Whether the request of `originator` with this id was seen. In the variant AODV_NUMBER the
- * originator's number stands for the id. Refused: AODV_HOLDS_NOTHING, AODV_STRANGER. */
+ * originator's number takes the place of the id. Refused: AODV_HOLDS_NOTHING, AODV_STRANGER. */
 uint32_t aodv_seen(struct aodv_router *handle, uint32_t originator, uint32_t id, bool *seen);
 
 #ifdef __cplusplus
