@@ -111,8 +111,8 @@ impl Mesh {
     }
 
     /// Reads an address as `Addr::parse` does. It is faster if the text begins with the first three
-    /// numbers of the address that was added last, which most of a mesh share: they are compared in
-    /// one step, and only the last number is read.
+    /// numbers of the address that was added last, which most of a mesh share, and these have at
+    /// most 8 bytes with their dots: then mostly only the last number has to be read.
     #[inline(always)]
     pub fn parse_addr(&self, text: &[u8]) -> Option<Addr>
         ensures { option_map (λ a. a.0) result ≡ address_of text.now }

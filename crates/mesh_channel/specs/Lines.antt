@@ -19,7 +19,7 @@ pub data Line : Type 0 where
 
 -- ---- `pass NUM`
 
--- this many ticks pass; before the first node no line but a `node` line may come
+-- this many ticks pass; before the first node the line is refused
 abbrev pub passing : Nodes → ℕ → Result (Option ℕ) LineFault
 passing mesh ticks = if length mesh == 0 then Err Early else Ok (Some ticks)
 

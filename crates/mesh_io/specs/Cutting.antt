@@ -100,7 +100,7 @@ pub record FindsLine (most : Limits) (given : ℕ) (bytes line : List ℕ) (afte
   pub left_is : left ≡ Some first.rest
 
 -- the answer of a call before which these bytes were to come: the line found, how many bytes are
--- given after it, and which are then to come
+-- given once the call is over, and which are then to come
 abbrev pub Tells : Limits → ℕ → List ℕ → Result Bool LineError → List ℕ → ℕ → Option (List ℕ)
     → Type 0
 Tells most given bytes (Ok true) line after left = FindsLine most given bytes line after left

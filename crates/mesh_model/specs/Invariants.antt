@@ -55,8 +55,8 @@ IsHonestCopy tables c = IsHonest (tables c.from) c.from c.message
 
 -- ---- what an entry says of its next hop's table
 
--- if the entry for d is valid and its next hop isn't d, the next hop has at least its number, with
--- one hop less
+-- if the entry for d is valid and its next hop isn't d, the next hop's entry for d has a greater
+-- number; or it has the same, is valid, and has at most `e.hops - 1` hops
 abbrev pub IsBacked : (ℕ → Table) → ℕ → Entry → Type 0
 IsBacked tables d e = e.flag ≡ Val → e.next ≢ d → AtLeast (tables e.next) d e.dsn (e.hops - 1)
 

@@ -55,7 +55,8 @@ abbrev pub EndsIn : ℕ → Arguments words.SpannedAddr → Type 0
 EndsIn size (AddressAndNumber a n) = length (decimal n) ≤ size
 EndsIn size others = ⊤
 
--- what a line of this length says has arguments in its command's form, and they fit in the line
+-- what a line of this length says has arguments in its command's form, and a number after an
+-- address fits in the line
 abbrev pub IsSaidIn : ℕ → Option Shape → Type 0
 IsSaidIn size None = ⊤
 IsSaidIn size (Some s) =

@@ -32,9 +32,9 @@ pub struct Held<'a> {
 }
 
 /// The copies in flight, as casts: a cast is kept by the id of its first copy, and its copies have
-/// that id and the next ones, by rising receiver. A copy is found by a binary search for its cast
-/// and by its rank among the receivers; clearing one bit removes it. The least copy is kept
-/// separately.
+/// that id and the next ones, by rising receiver. A copy is found by the position of its cast, if
+/// need be by binary search, and by its rank among the receivers; clearing one bit removes it. The
+/// least copy is kept separately.
 #[derive(Drop)]
 pub struct Copies {
     casts: Casts,

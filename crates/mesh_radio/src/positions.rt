@@ -55,8 +55,8 @@ fn even_position(firsts: &[u64], id: u64) -> usize {
 }
 
 /// How many of the rising ids are at most this one. The hint affects only how long this takes: no
-/// search is needed if the last of them is at the hint or at the position after it, or if the ids
-/// rise evenly.
+/// search is needed if the last of them is at the hint or at the position after it, and mostly none
+/// if the ids rise evenly.
 #[inline(always)]
 pub fn position_near(firsts: &[u64], id: u64, hint: usize) -> usize
     requires { AreSorted firsts.now }

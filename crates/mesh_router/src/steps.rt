@@ -1,4 +1,4 @@
-//! What each command makes a router do.
+//! What each command but `self` and `peer` makes a router do.
 ghost use Rattle.std.specs.Prelude.{◌≡◌, ◌<◌, ◌≤◌, ◌+◌, ◌*◌, ◌++◌, not, length, codes, is_some, true, OnOk, IfOk, IfErr, IfSome, IsErrOf, Option, List};
 ghost use Rattle.std.specs.FinSet as sets;
 ghost use Rattle.aodv_model.specs.Handlers as model;

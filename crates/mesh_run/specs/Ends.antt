@@ -45,7 +45,7 @@ CanBeTold n (Err stop.WriteFault) = ⊤
 CanBeTold n (Err stop.NoMemory) = ⊤
 
 -- after a line with this result, in state n, the run goes on or has ended; if the line was refused
--- or a counter was full, it ends with its last line
+-- or a counter was full, it ends with its last line, or with a prefix of it after a failed write
 abbrev pub IsSettled : RunState → Option (List ℕ) → Option (List ℕ) → Result (Unit {0}) Stop
     → Result (Option Verdict) ShellFault → Type 0
 IsSettled n before now (Ok done) result = (result ≡ Ok None) × (now ≡ before)

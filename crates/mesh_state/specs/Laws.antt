@@ -15,8 +15,9 @@ abbrev pub CheckpointIsFront : Type 0
 CheckpointIsFront = (m : RunState) (saved rest : List ℕ) → IsState saved m
     → (front_of (saved ++ rest) ≡ saved) × (rest_of (saved ++ rest) ≡ rest)
 
--- the run of a schedule in two parts, the first of which has whole lines that were all allowed and
--- done, is that of the first, and then that of the second from the state after the first on
+-- the run of a schedule of at most `LONGEST_INPUT` bytes in two parts, the first of which has whole
+-- lines that were all allowed and done, is that of the first, and then that of the second from the
+-- state after the first on
 abbrev pub SavedRunGoesOn : Type 0
 SavedRunGoesOn = (first second : List ℕ) → HasWholeLines first
     → length (first ++ second) ≤ LONGEST_INPUT → (text_of_input Base first).verdict ≡ Finished

@@ -8,8 +8,8 @@ pub fn a_checkpoint_is_the_front()
     ensures { CheckpointIsFront }
 {}
 
-/// The run of a schedule in two parts is that of the first, and then that of the second from the
-/// state after the first on.
+/// The run of a schedule in two parts, the first of which has whole lines that were all allowed and
+/// done, is that of the first, and then that of the second from the state after the first on.
 pub fn a_saved_run_goes_on()
     ensures { SavedRunGoesOn }
 {}

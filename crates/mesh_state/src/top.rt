@@ -191,8 +191,9 @@ pub fn state<I: Source, O: Sink>(
     // last state is written, unless its body is too long. With `go` the answer is the first refusal
     // of the front, and nothing is written; or the front is the checkpoint of one run state, and
     // what is written and answered is the text and the verdict of the rest from there. After a
-    // failed read the text of the lines that were read whole is written, or nothing if fewer bytes
-    // were taken than the front has; after a failed write, or if memory runs out, a prefix.
+    // failed read with `save` nothing is written, with `go` the text of the lines that were read
+    // whole, or nothing if fewer bytes were taken than the front has; after a failed write, or if
+    // memory runs out, a prefix.
     ensures told { HasAnswered (asked_of (map (λ w. w.now) words.now)) (I.left input.old)
         (I.left input.new) (O.held out.old) (O.held out.new) result }
 

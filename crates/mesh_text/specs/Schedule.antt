@@ -138,7 +138,7 @@ abbrev pub accepted_shape : Nodes → Bool → Option (Shape Command SpannedAddr
 accepted_shape mesh started None = Ok Nothing
 accepted_shape mesh started (Some s) = accepted_line mesh started s.command s.arguments
 
--- what a line says, or its first fault: those of the line by itself, then those of its place
+-- what a line says, or its first fault: those of its words, then those that it has in this mesh
 unfoldable pub line_of : Nodes → Bool → List ℕ → Result AcceptedLine LineFault
 line_of mesh started line = result_and_then (accepted_shape mesh started) (shape_of line)
 

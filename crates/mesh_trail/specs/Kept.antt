@@ -55,9 +55,9 @@ is_told y (Rreq m) q e = is_route y m.oip m.osn m.hops q e
 is_told y (Rrep m) q e = is_route y m.dip m.dsn m.hops q e
 is_told y (Rerr dests) q e = false
 
--- the list of this entry of x for q, once x has heard m with list l from y: x and y, if the entry
--- leads to y itself; else l with x in front, if the entry is the route that m announced; else the
--- list that it had
+-- the list of this entry of x for q, once x has heard m with list l from y: x and y, if q is y and
+-- the entry leads to it directly; else l with x in front, if the entry is the route that m
+-- announced; else the list that it had
 abbrev pub entry_list : ℕ → ℕ → Message → List ℕ → ℕ → List ℕ → Option Entry → List ℕ
 entry_list x y m l q kept None = kept
 entry_list x y m l q kept (Some e) =

@@ -16,7 +16,8 @@ abbrev pub StartHolds : Type 0
 StartHolds =
     (variant : Variant) (firsts : List ℕ) → Holds variant (start variant firsts) nothing_kept
 
--- if the lists are walks before an event, the lists after it are walks, in every variant
+-- if the invariants hold and the lists are walks before an event, the lists after it are walks, in
+-- every variant
 abbrev pub StepHolds : Type 0
 StepHolds =
     (variant : Variant) (w : World) (e : Event) (k : KeptLists) → IsInvariant w → Holds variant w k

@@ -6,7 +6,7 @@ pub fn start_holds()
     ensures { StartHolds }
 {}
 
-/// If the lists are walks before an event, the lists after it are walks.
+/// If the invariants hold and the lists are walks before an event, the lists after it are walks.
 pub fn step_holds()
     ensures { StepHolds }
 {}
