@@ -14,7 +14,7 @@ use mesh_base::NoMemory;
 use std::alloc::Global;
 use std::marker::Model;
 
-/// A set of ids. One of a single interval takes no memory.
+/// A set of ids. It takes no memory until room is made for a second interval.
 #[derive(Drop)]
 pub(crate) struct Ids {
     intervals: Intervals,

@@ -1,6 +1,6 @@
 -- Read in this order. aodv_model defines what a node does (its specs/Handlers and specs/Fullness).
--- Shown: the model's state for a core of the code, and what every handler requires of a core and
--- preserves.
+-- Shown: the model's state for a core of the code, and what handlers require of a core and
+-- preserve.
 pub mod Shown
 -- Made: what it means that a handler did what the model does, or refused.
 pub mod Made

@@ -1,4 +1,4 @@
--- The model's state for a core, and what every handler requires of a core and preserves.
+-- The model's state for a core, and what handlers require of a core and preserve.
 use Rattle.std.specs.Prelude.{◌≡◌, ◌<◌, ℕ, length}
 use Rattle.aodv_model.specs.Tables.{Table}
 use Rattle.aodv_model.specs.Cores.{Core, RouteRequest, RouteReply, Message, Pkt}

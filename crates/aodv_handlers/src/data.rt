@@ -48,7 +48,7 @@ pub fn new_packet<T: Table>(core: &mut Core<T>, dest: usize, body: Bytes) -> Opt
 }
 
 // Whether data that can't go on by this entry make an error: they do if the entry is invalid and
-// there is somebody to tell.
+// has precursors, or if it is invalid and errors are broadcast.
 fn makes_an_error(variant: Variant, e: &Entry) -> bool
     ensures { result ≡ (not (is_val e.now.flag) && (is_error variant || not (no_node e.now.pre))) }
 {

@@ -118,7 +118,7 @@ fn error_cast<T: Table>(
 }
 
 /// Makes the routes to these destinations invalid: their entries get the numbers stated, data that
-/// wait for them need a request, and a route error is written if there is somebody to tell.
+/// wait for them need a request, and a route error is written if it would name a destination.
 #[tactic(auto, unfolding(aodv_model::specs::Handlers::retract))]
 pub(crate) fn retract<T: Table>(
     core: &mut Core<T>,
@@ -145,9 +145,9 @@ pub(crate) fn retract<T: Table>(
     cast
 }
 
-/// The link to `next` is broken: all valid routes by it become invalid, each with its number
-/// raised, and a route error is written if there is somebody to tell. If a number can't be raised,
-/// nothing changes.
+/// The link to `next` is broken: all valid routes by it become invalid, each with its number raised
+/// (0 stays 0), and a route error is written if it would name a destination. If a number can't be
+/// raised, nothing changes.
 #[tactic(auto, unfolding(aodv_model::specs::Handlers::link_broken))]
 pub fn link_broken<T: Table>(
     core: &mut Core<T>,

@@ -104,8 +104,8 @@ fn may_accept<T: Table>(table: &T, mesh: &Mesh, from: usize, m: &RerrView<'_>) -
     false
 }
 
-// Makes the routes invalid that a route error names. It isn't inlined: otherwise the memory of its
-// locals would be cleared for each error, even one that names no route.
+// Makes the routes invalid for which a route error is accepted. It isn't inlined: otherwise the
+// memory of its locals would be cleared for each error, even one that makes no route invalid.
 #[inline(never)]
 fn retract_accepted<T: Table>(
     core: &mut Core<T>,

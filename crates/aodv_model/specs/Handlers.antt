@@ -237,7 +237,7 @@ reply_from_table core range from m =
     (Rrep (record { hops = dhops rt m.dip; dip = m.dip; dsn = sqn rt m.dip; oip = m.oip }))
     (nhop rt m.oip) range
 
--- the node passes the request on, with one hop more and the greater of the known numbers of dip
+-- the node passes the request on, with one hop more and the greater of its and m's numbers of dip
 unfoldable pub forward_request : Core → RouteRequest → Reaction
 forward_request core m =
     plain core

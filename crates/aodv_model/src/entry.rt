@@ -8,7 +8,7 @@ use mesh_base::NodeSet;
 pub enum Known {
     /// The number came with a request or a reply.
     Kno,
-    /// The latest news was only that the destination is a neighbour. The entry may keep an older
+    /// The route was learnt only by hearing the destination itself. The entry may keep an older
     /// number.
     Unk,
 }

@@ -84,7 +84,7 @@ impl From<NoMemory> for AskError {
 /// Why parts that were kept don't make a node.
 #[derive(Clone, Copy, Debug, PartialEq, Eq, Error)]
 pub enum Unfit {
-    /// The state isn't one that a node may have: the number of an entry is wrong for it, its next
+    /// The state isn't one that a node may have: an entry's number or hop count is wrong, its next
     /// hop isn't another node that has an entry, or a precursor is outside the mesh.
     #[error("a state that isn't sound")]
     Core,

@@ -16,7 +16,7 @@ use aodv_table::Table;
 use aodv_wire::{RerrView, read};
 use mesh_base::{Effect, Kind, Mesh, NodeSet, Packet};
 
-/// A turn on bytes from a node. It is inlined into both its callers, and what it calls is inlined
+/// A turn on bytes from a node. It is inlined into both its callers, and its handlers are inlined
 /// into it: as a function of its own it would clear its frame and hand its answer on through
 /// memory.
 #[inline(always)]

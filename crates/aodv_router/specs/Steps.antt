@@ -1,5 +1,5 @@
 -- What a turn, a send and a request answer, and what is seen of the router afterwards. Each answer
--- is that of the router's node, in addresses.
+-- is that of the router's node, in addresses, or that the mesh has no such address.
 use Rattle.std.specs.Prelude.{◌≡◌, ℕ, Option, Some, None, Result, Ok, Err, List}
 use Rattle.mesh_base.specs.Meshes.{Nodes, addr_at, index_of}
 use Rattle.mesh_base.specs.declared.events.Effect as effects

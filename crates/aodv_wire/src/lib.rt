@@ -1,5 +1,5 @@
 //! The packets of AODV as bytes: route requests, replies and errors as RFC 3561 section 5 lays them
-//! out, and this project's own data packet. The reader takes any bytes. Each writer writes the one
+//! out, and this project's own data packet. The reader takes any bytes. Each writer writes one
 //! encoding of its message, from which the reader gets that message back.
 #![tactic(auto)]
 

@@ -5,7 +5,7 @@ use crate::few::InlineBytes;
 use std::alloc::{AllocError, AllocFailed, Global};
 use std::marker::Model;
 
-/// Out of memory: an allocation failed.
+/// Out of memory: an allocation failed, or what is kept has reached a limit of its own.
 #[derive(Clone, Copy, Debug, PartialEq, Eq)]
 pub struct NoMemory;
 

@@ -58,7 +58,7 @@ pub enum Variant {
     Base,
     /// Requests are told apart by their originator's sequence number, not by their id.
     Number,
-    /// A reply is passed on wherever a node has valid routes to its originator and its destination,
+    /// A reply is passed on by a node that isn't its originator and has valid routes to both ends,
     /// with the hops and number of the node's own entry.
     Reply,
     /// Route errors are broadcast.

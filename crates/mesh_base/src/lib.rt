@@ -2,7 +2,7 @@
 //! sets of nodes, lists of bytes and the memory for them, events and what they do.
 //!
 //! Node `i` of a mesh is the `i`-th of its addresses in ascending order, counted from 0. All counts
-//! are of nodes or bytes.
+//! are of nodes or bytes, but for `MOST_EVENTS`, which counts events.
 #![tactic(auto)]
 
 mod addr;

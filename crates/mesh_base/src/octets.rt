@@ -163,7 +163,7 @@ impl Stem {
     }
 
     /// Reads an address as `Addr::parse` does. If it begins with these numbers, mostly only its
-    /// last number has to be read.
+    /// last number has to be read, unless these have more than 8 bytes with their dots.
     #[inline(always)]
     #[tactic(auto, using(crate::proofs::StemLaws::stem_and_last))]
     pub(crate) fn read(&self, text: &[u8]) -> Option<Addr>

@@ -10,7 +10,7 @@ pub record HasCauseIf (fails : Type 0) (before now : ℕ) : Type 0 where
   pub failed : fails → Rose before now
   pub none : ¬ fails → now ≡ before
 
--- a capture answers this fault exactly where the count of faults rose
+-- the count of faults rose if a capture answers this fault, and is otherwise what it was
 abbrev pub HasStatusCause : CaptureStatus → ℕ → ℕ → CaptureStatus → Type 0
 HasStatusCause fault before now s = HasCauseIf (s ≡ fault) before now
 

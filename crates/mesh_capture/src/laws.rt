@@ -22,7 +22,7 @@ pub fn a_run_is_captured()
     ensures { RunIsCaptured }
 {}
 
-/// The same holds for the text of a watched run, which also has a block below each event that has
+/// The same holds for the text of a watched run with blocks: it has one below each event that has
 /// changed a node.
 pub fn a_watched_run_is_captured()
     ensures { WatchedRunIsCaptured }

@@ -88,7 +88,7 @@ pub fn capture<I: Source, O: Sink, E: Sink>(
     ensures no_other_fault_of_errors { result ≢ CaptureStatus.WriteFault
         → E.faults errors.new ≡ E.faults errors.old }
 
-    // If nothing has failed, the text is decided, unless memory runs out.
+    // If no source or sink has failed, the text is decided, or the answer is `NoMemory`.
     ensures complete { length words.now ≡ 0
         → (Rose (I.faults input.old) (I.faults input.new) → ⊥)
         → (Rose (O.faults out.old) (O.faults out.new) → ⊥)

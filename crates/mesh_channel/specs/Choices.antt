@@ -46,7 +46,7 @@ abbrev pub by_nodes : World → Channel → Choice
 by_nodes w c = send_or c (first_send w) (ask_or c (first_ask w))
 
 -- the delivery of the first copy of the plan, if it is due by this tick; otherwise a send or a
--- request
+-- request, or nothing
 abbrev pub due_or : World → Channel → Plan → Choice
 due_or w c [] = by_nodes w c
 due_or w c (d ∷ plan) = if nat_le d.tick c.tick then delivery c d plan else by_nodes w c
@@ -78,7 +78,7 @@ abbrev pub last_tick : Until → ℕ
 last_tick (Events count) = LAST_TICK
 last_tick (Tick last) = last
 
--- how long a line goes on that lets this many ticks pass after this one
+-- how long a line goes on that lets this many ticks pass after this one, but none after LAST_TICK
 abbrev pub tick_behind : ℕ → ℕ → Until
 tick_behind tick count = Tick (min (tick + count) LAST_TICK)
 
@@ -94,7 +94,7 @@ next_due until c (d ∷ plan) =
     if nat_le d.tick (last_tick until) then delivery (record c { tick = d.tick }) d plan else
     Nothing (at_end until c)
 
--- what comes when a tick is over: nothing if the line has done enough, or else the next copy
+-- what comes when a tick is over: the next copy, or nothing if none is due or enough was done
 abbrev pub next_tick : Until → ℕ → Channel → Choice
 next_tick until did c =
     if is_enough until did then Nothing c else next_due until c c.plan

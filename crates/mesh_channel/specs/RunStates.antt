@@ -36,8 +36,8 @@ abbrev pub choice_of : Option Event → Channel → Choice
 choice_of None c = choices.Nothing c
 choice_of (Some e) c = Chosen e c
 
--- after a choice nothing is left to do; or there is no more than before, and a copy that the event
--- loses or doubles has a number from 1 on
+-- after a choice nothing is left to do; or an event is chosen that loses or doubles a copy with a
+-- number from 1 on, and no more is left than before
 abbrev pub IsLeftBehind : Channel → Option Event → Channel → Type 0
 IsLeftBehind c None k = k.left ≡ []
 IsLeftBehind c (Some e) k =

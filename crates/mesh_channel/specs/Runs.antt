@@ -25,7 +25,7 @@ unfoldable pub events_of_piece : Rates → RunState → Piece → List Event
 events_of_piece rates m (Whole bytes) = events_by rates m (line_at m bytes)
 events_of_piece rates m others = []
 
--- the events of these lines, up to the first that isn't allowed
+-- the events of these lines, up to the line that ends the run, if one does
 unfoldable pub events_from : Rates → RunState → List Piece → List Event
 events_from rates m [] = []
 events_from rates m (piece ∷ pieces) =

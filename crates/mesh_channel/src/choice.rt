@@ -111,8 +111,8 @@ fn next_tick(until: &Until, did: u64, channel: &mut Channel) -> Option<Event<'st
     None
 }
 
-/// The next event of a line that has done `did` events. It searches neither nodes nor copies in
-/// flight.
+/// The next event of a line that has done `did` events. It goes neither through all nodes nor
+/// through all copies in flight.
 pub fn next_choice(
     until: &Until,
     did: u64,

@@ -1,7 +1,7 @@
 //! What holds of checkpoints.
 ghost use Rattle.mesh_checkpoint.specs.Laws.{WrittenIsRead, ReadIsWritten, FittingIsWritten, OneCheckpoint, OneBody, BalancedIsTaken, OneRefusal, OneState, FittingIsState};
 
-/// A body is read back from the bytes that are written for it.
+/// A body that fits is read back from the bytes that are written for it.
 pub fn written_is_read()
     ensures { WrittenIsRead }
 {}

@@ -74,8 +74,8 @@ pub fn mesh<I: Source, O: Sink>(
         → (input.new ≡ input.old) × (out.new ≡ out.old) }
 
     // What is written is the text that the command asks for, and the answer is its verdict. After a
-    // failed write or a lack of memory, a prefix of that text is written; after a failed read, what
-    // the command asks for of the lines that were read whole. In no world of the run, after any
+    // failed write or a lack of memory, a prefix of that text is written; after a failed read, the
+    // text of the lines read whole, or nothing if quiet. In no world of the run, after any
     // number of its events, does a destination have a loop; in each of these worlds every datum is
     // accounted for; and the run's text names each datum that was delivered or dropped. For `run`
     // all this is claimed if the source's bytes are known; if they aren't, each world of the run is

@@ -47,7 +47,7 @@ abbrev pub planned_double : Plan → ℕ → ℕ → Option Lot → Plan
 planned_double plan tick new None = plan
 planned_double plan tick new (Some lot) = planned plan tick new lot
 
--- the number of the double after this one
+-- the number of the next double: `new` itself if this copy isn't doubled
 abbrev pub number_behind : ℕ → Option Lot → ℕ
 number_behind new None = new
 number_behind new (Some lot) = new + 1

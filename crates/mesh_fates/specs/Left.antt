@@ -14,7 +14,7 @@ event_left (decided.Double id) = Double id
 abbrev pub events_left : List Decided → List Event
 events_left left = map event_left left
 
--- if the event is the loss or the doubling of a copy, the copy has a number from 1 on
+-- the event is the loss or the doubling of a copy with a number from 1 on
 abbrev pub IsNumbered : Event → Type 0
 IsNumbered (Lose id) = 1 ≤ id
 IsNumbered (Double id) = 1 ≤ id

@@ -12,7 +12,7 @@ pub struct Span {
 pub enum LineFault {
     /// The first word isn't a command.
     Word(Span),
-    /// The line has the wrong number of words for its command.
+    /// The line has the wrong number of words for its command, or another word in place of `sn`.
     Count,
     /// An address was expected.
     BadAddress(Span),

@@ -1,5 +1,5 @@
 -- The lines that put a node at a place: `place ADDR X Y` for the first time, and `move ADDR X Y`
--- from another place. `link` and `cut` are no commands of a run with places; any other line is as
+-- later. `link` and `cut` are no commands of a run with places; any other line is as
 -- in a schedule, except that a line about a place also makes a later `node` line late.
 use Rattle.std.specs.Prelude.{ℕ, ◌==◌, Bool, true, false, ◌||◌, if◌then◌else◌, List, [], ◌∷◌, ◌++◌, Option, Some, None, Result, Ok, Err, length, codes}
 use Rattle.std.specs.Str.{bytes_eq}

@@ -11,7 +11,7 @@ use mesh_base::{Addr, Mesh, cut, number_up_to};
 use mesh_grammar::{LineFault, Span};
 use mesh_script::{is_word, next_at, span_at};
 
-/// A node comes to a place: for the first time by `place`, from another place by `move`.
+/// A node comes to a place: for the first time by `place`, later by `move`.
 #[derive(Clone, Copy, PartialEq, Eq)]
 pub struct Placing {
     pub first: bool,

@@ -3,7 +3,7 @@
 -- Drawn: a line of the steps, by the words that are drawn for it.
 -- Made: the whole schedule.
 -- Laws: what is proved of it.
--- Stages, Making: how far a schedule is made, for the contracts of `Maker`.
+-- Stages, Making: how far a schedule is made, for the contracts of `Maker` and `MadeSource`.
 pub mod Words
 pub mod Drawn
 pub mod Made

@@ -132,7 +132,7 @@ impl Maker {
 
     /// The next line. The text of a datum is kept in `text`. In a state that a run of the lines
     /// before it has come to, the line is allowed, and the run of the text that is still to come
-    /// does this line and then runs what is left of that text.
+    /// does this line and then, unless the line has ended it, runs what is left of that text.
     pub fn next_line<'a>(&mut self, text: &'a mut LineBuf) -> Line<'a>
         requires making { IsMaking self.old }
         requires more { is_done self.old ≡ false }

@@ -1,6 +1,6 @@
 -- Part of what the headline says.
--- Where the data are, and how they come and go. Every count is of the data that pass a test on
--- their originator, destination and body: of one datum, or of all.
+-- Where the data are, and how they come and go. Each count but `doubled_in` and `doubled_at` is of
+-- the data that pass a test on their originator, destination and body: of one datum, or of all.
 use Rattle.std.specs.Prelude.{ℕ, ◌+◌, Bool, true, if◌then◌else◌, List, [], ◌∷◌, zero, suc, length, Option, Some, None}
 use Rattle.std.specs.FinMap as maps
 use Rattle.aodv_model.specs.Cores.{Body, Message, Pkt, Rreq, Rrep, Rerr, Item, New, Heard, Store, bodies_in}

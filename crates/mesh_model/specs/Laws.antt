@@ -61,14 +61,14 @@ LoopFree =
     → ¬ (Cycle (run (start variant firsts) events) d)
 
 -- along each edge for d from x to y: if y isn't d and has a valid entry for d, y's entry is the
--- better one
+-- better one. The world must have what excludes cycles
 abbrev pub BetterAlongEdges : Type 0
 BetterAlongEdges =
     (w : World) (d x y : ℕ) (edge : Edge w d x y) (e : Entry) → IsLoopSafe w → y ≢ d
     → maps.get (table w y) d ≡ Some e → e.flag ≡ Val
     → is_better e edge.entry ≡ true
 
--- a walk from a node of the mesh has at most as many nodes as the mesh
+-- if the invariant holds, a walk from a node of the mesh has at most as many nodes as the mesh
 abbrev pub WalkIsShort : Type 0
 WalkIsShort =
     (w : World) (d x : ℕ) (ys : List ℕ) → IsInvariant w → x < length w.nodes → IsWalk w d (x ∷ ys)
@@ -88,7 +88,7 @@ PickIsEnabled = (w : World) (e : Event) → pick w ≡ Some e
     → IsChoice e × IsEvent (length w.nodes) e × (step w e ≢ Idle)
 
 -- if such an event is enabled, one that comes no later is chosen. So none is chosen exactly where
--- none is enabled
+-- none is enabled. `IsInMesh` must hold of the world
 abbrev pub PickIsLeast : Type 0
 PickIsLeast = (w : World) (e : Event) → IsInMesh w → IsEvent (length w.nodes) e → IsChoice e
     → step w e ≢ Idle → (chosen : Event) × (pick w ≡ Some chosen) × IsNoLater chosen e
@@ -96,7 +96,7 @@ PickIsLeast = (w : World) (e : Event) → IsInMesh w → IsEvent (length w.nodes
 -- ---- the account
 
 -- one event: as many data are there afterwards, were delivered or were dropped, as were there
--- before, were given or were doubled
+-- before, were given or were doubled. It must be of the mesh, and `IsInMesh` hold of the world
 abbrev pub StepBalances : Type 0
 StepBalances = (t : Test) (w : World) (e : Event) → IsEvent (length w.nodes) e → IsInMesh w
     → waiting t (after w (step w e)) + queued_data t (after w (step w e))

@@ -36,12 +36,12 @@ pub fn better_along_edges()
     ensures { BetterAlongEdges }
 {}
 
-/// A walk from a node of the mesh has at most as many nodes as the mesh.
+/// If the invariant holds, a walk from a node of the mesh has at most as many nodes as the mesh.
 pub fn walk_is_short()
     ensures { WalkIsShort }
 {}
 
-/// `route_end` is where a route ends, and a walk leads there.
+/// If the invariant holds, `route_end` is where a route ends, and a walk leads there.
 pub fn route_ends()
     ensures { RouteEnds }
 {}

@@ -30,7 +30,7 @@ pub fn node_run<I: Source, O: Sink, L: Link>(
         → (input.new ≡ input.old) × (out.new ≡ out.old) × (link.new ≡ link.old) }
 
     // What is written and sent is the log of the script with what the link's receive calls found,
-    // and the answer is the log's verdict. After a fault, or lack of memory, it is a prefix of that
+    // and the answer is the run's verdict. After a fault, or lack of memory, it is a prefix of that
     // log, in the log's order: a datagram is sent only once all text before it is written.
     ensures text_datagrams_and_verdict { IfSome (port_of (map (λ w. w.now) words.now)) (λ port.
         IfSome (I.left input.old) (λ script. IsScriptRun script (L.arrived link.old)

@@ -45,7 +45,7 @@ abbrev pub after_self : Option ℕ → Result AcceptedLine LineFault → Result 
 after_self None r = Err Early
 after_self (Some me) r = r
 
--- a line about this node, which mustn't be the node itself
+-- a line about node x, which mustn't be the node itself
 abbrev pub of_other : Option ℕ → ℕ → AcceptedLine → Result AcceptedLine LineFault
 of_other None x line = Ok line
 of_other (Some me) x line = if x == me then Err Same else Ok line

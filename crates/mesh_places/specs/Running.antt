@@ -6,7 +6,7 @@ use Rattle.mesh_grid.specs.Text.{placed_run}
 use Rattle.mesh_places.specs.RunStates.{run_state_of, moved}
 use Rattle.mesh_places.specs.declared.placed.Placed.{Placed}
 
--- the run with places of this reach, as a script
+-- a run with places as a script, with the reach that is part of its state
 abbrev pub running : Fold Placed Verdict
 running = record {
   head = λ p. (placed_run p.reach).head (run_state_of p);

@@ -70,8 +70,8 @@ fn receiver(to: &NodeSet, rank: usize) -> Option<usize>
     to.nth(rank)
 }
 
-// Where the copy of this id is kept: the index of its cast is found by binary search, and its
-// receiver by its rank. The hint affects only how long this takes.
+// Where the copy of this id is kept: the index of its cast is found by its first id, if need be by
+// binary search, and its receiver by its rank. The hint affects only how long this takes.
 fn find_near(casts: &Casts, id: u64, hint: usize) -> Option<Spot>
     requires { (next : ℕ) × AreCasts casts.now.entries next }
     ensures some { IfSome result (λ s. IsFound casts.now.entries id s.index s.to) }
@@ -283,8 +283,8 @@ pub fn remove_at(casts: &mut Casts, index: usize, to: usize)
     }
 }
 
-/// The packet of the cast at this index once more: shared with the cast or, if there is no memory
-/// for that, in the memory of a room.
+/// The packet of the cast at this index once more: shared with the cast or, if it can't be, in the
+/// memory of at most one room.
 pub fn double_packet(casts: &mut Casts, index: usize, reserve: &mut Reserve) -> Shared
     requires room { 1 ≤ reserve.old.room }
     requires fits { (c : Cast) → slice_get (values casts.old) index ≡ Some c

@@ -1,4 +1,4 @@
-//! How way is made for a cast whose id isn't the one after those of all casts.
+//! How way is made for a cast whose id isn't after those of all casts' copies.
 ghost use Rattle.std.specs.Prelude.{◌≡◌, ℕ, ◌≤◌};
 ghost use Rattle.std.specs.Bool.{OnTrue};
 ghost use Rattle.indexmap.specs.IndexMap.{spare};

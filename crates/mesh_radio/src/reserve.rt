@@ -113,8 +113,8 @@ impl Reserve {
         own
     }
 
-    /// The bytes of a packet once more, for one copy: shared with the packet or, if there is no
-    /// memory for that, in the memory of one room.
+    /// The bytes of a packet once more, for one copy: shared with the packet or, if they can't be,
+    /// in the memory of at most one room.
     pub fn double(&mut self, packet: &mut Shared) -> Shared
         requires room { 1 ≤ self.old.room }
         requires fits { length packet.old ≤ self.old.most }

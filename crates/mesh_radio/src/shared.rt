@@ -102,7 +102,7 @@ impl Shared {
         self.as_bytes().as_slice()
     }
 
-    /// The same bytes once more, which take no memory of their own unless they are at most 32. None
+    /// The same bytes once more: up to 32 are copied, which takes no memory; more are shared. None
     /// if there is no memory for the count of their owners, or if one more can't be counted.
     pub fn share(&mut self, alloc: Global) -> Option<Shared>
         ensures same { self.new ≡ self.old }

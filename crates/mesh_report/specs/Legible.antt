@@ -1,5 +1,5 @@
 -- What an event and a node's step did, if a packet that was taken, and one that was lost, may be
--- any that can be read, whoever wrote it.
+-- any that can be read and names only nodes of the mesh, whoever wrote it.
 use Rattle.std.specs.Prelude.{◌≡◌, ◌<◌, ℕ, List, [], ◌++◌, length, Option, Some, None, ⊤}
 use Rattle.std.specs.Borrow.{Bor}
 use Rattle.mesh_base.specs.Meshes.{Nodes}

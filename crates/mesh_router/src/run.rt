@@ -195,8 +195,8 @@ pub fn run_script<I: Source, O: Sink, L: Link>(
     requires open { is_some (L.port link.old) ≡ true }
 
     // What is written and sent is the log of the script with what the link's receive calls found,
-    // and the answer is the log's verdict. After a fault, or lack of memory, it is a prefix of that
-    // log, in the log's order: a datagram is sent only once all text before it is written.
+    // and the answer is the script's verdict. After a fault, or lack of memory, a prefix of that
+    // log is written and sent: a datagram is sent only once all text before it is written.
     ensures told { IfSome (I.left input.old) (λ script. IsScriptRun script (L.arrived link.old)
         (O.held out.old, L.sent link.old) (O.held out.new, L.sent link.new) result) }
 

@@ -25,8 +25,8 @@ abbrev pub why_past : Limit → BadWhy
 why_past Line = TooLong
 why_past Input = TooMuch
 
--- the last line is written and this is the verdict; or the sink failed, and a prefix of the line is
--- written
+-- the last line is written and this is the verdict; or the sink's fault is answered, and a prefix
+-- of the line is written
 abbrev pub IsLastWritten : List ℕ → Verdict → Option (List ℕ) → Option (List ℕ)
     → Result (Option Verdict) ShellFault → Type 0
 IsLastWritten text v before now (Ok None) = ⊥

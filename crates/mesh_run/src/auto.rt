@@ -102,7 +102,8 @@ fn take_two<S: Steps>(at: &mut Point<S>, may: bool) -> bool
 /// Does at most `task.count` events, and answers how many it did: the one that is given, or else
 /// those that the run chooses, each after the one before it is done. It is inlined into both its
 /// callers: the one event of a line needs no loop there, and no answer of 72 bytes goes through
-/// memory. If nothing is written, a chosen delivery and the turn after it are done together.
+/// memory. If nothing is written, a chosen delivery and the turn after it are done together if that
+/// is possible.
 #[inline(always)]
 pub fn do_events<'a, S: Steps, O: Sink>(
     alloc: Global,

@@ -226,8 +226,8 @@ fn do_uncounted<'a, S: Steps, O: Sink>(
     Ok(())
 }
 
-/// Does an allowed line, writes its text if `say`, and counts it. Every line but a `node` line is
-/// written back as it was read; if `say` is false, `bytes` need not be the line's.
+/// Does an allowed line, writes its text if `say`, and counts it. Any line but a blank or `node`
+/// line is written back as it was read; if `say` is false, `bytes` need not be the line's.
 #[inline(always)]
 pub fn do_line<'a, S: Steps, O: Sink>(
     alloc: Global,

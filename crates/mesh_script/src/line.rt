@@ -1,7 +1,7 @@
 //! A line of a schedule.
 use mesh_base::{Addr, Event};
 
-/// A line that is allowed at its place in a schedule. A node is given by its index in the mesh.
+/// A line that is allowed at its place in a schedule. A node of the mesh is given by its index.
 #[derive(Clone, Copy)]
 pub enum Line<'a> {
     /// An empty line or a remark.

@@ -15,9 +15,9 @@ use mesh_radio::Radio;
 pub enum Claim {
     /// It is as a node of the mesh writes it.
     Written,
-    /// If it is a request, its sender's table has at least what it says of the originator.
+    /// If it is another node's request, its sender's table has at least what it says of that node.
     Request,
-    /// If it is a reply, its sender's table has at least what it says of the destination.
+    /// If it is a reply about another node, its sender's table has at least what it says of it.
     Reply,
 }
 

@@ -183,7 +183,7 @@ HasRefused asked given r s answer =
     IfSome asked (λ a. IfSome given (λ bytes.
     HasRefusal a bytes → ¬ (Rose r s) → IsRefusalOrShort answer))
 
--- if the bytes began with the checkpoint of a schedule's last state, the run went on as that of the
+-- if `go` got the checkpoint of a schedule's last state first, the run went on as that of the
 -- schedule
 abbrev pub HasGoneOn : Option Asked → Option (List ℕ) → Option (List ℕ) → Option (List ℕ)
     → Option (List ℕ) → StateStatus → Type 0

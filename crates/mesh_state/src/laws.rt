@@ -8,14 +8,14 @@ pub fn a_checkpoint_is_the_front()
     ensures { CheckpointIsFront }
 {}
 
-/// The run of a schedule in two parts, the first of which has whole lines that were all allowed and
-/// done, is that of the first, and then that of the second from the state after the first on.
+/// The run of a schedule, within the limit of an input, in two parts, the first of which has whole
+/// lines, all done, is that of the first, and then that of the second from the state after it on.
 pub fn a_saved_run_goes_on()
     ensures { SavedRunGoesOn }
 {}
 
-/// The run of a schedule followed by more lines is that of the schedule, and then the run that goes
-/// on with these lines from the checkpoint of the schedule's last state.
+/// If a schedule of whole lines is done, its run with more lines after it, within the limit of an
+/// input, is its own, and then the one that goes on with these lines from its last checkpoint.
 pub fn a_loaded_run_goes_on()
     ensures { LoadedRunGoesOn }
 {

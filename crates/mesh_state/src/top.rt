@@ -200,7 +200,7 @@ pub fn state<I: Source, O: Sink>(
     // If a schedule of whole lines is done, and the source gives the checkpoint of its last state
     // and then more lines, `go` doesn't refuse the checkpoint and goes on as the run of the
     // schedule followed by these lines: what is written is that run's text below the schedule's
-    // lines, and the answer is its verdict.
+    // lines, and the answer is its verdict, if the two together are within the limit of an input.
     ensures goes_on { HasGoneOn (asked_of (map (λ w. w.now) words.now)) (I.left input.old)
         (I.left input.new) (O.held out.old) (O.held out.new) result }
 
@@ -222,7 +222,7 @@ pub fn state<I: Source, O: Sink>(
     ensures refused { HasRefused (asked_of (map (λ w. w.now) words.now)) (I.left input.old)
         (I.faults input.old) (I.faults input.new) result }
 {
-    // A checkpoint is that of one plain run state, and that of a state of a run isn't refused.
+    // A checkpoint is that of at most one plain run state; that of a state of a run isn't refused.
     one_start();
     a_run_is_unrefused();
     match asked_of(words) {

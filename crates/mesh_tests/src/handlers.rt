@@ -452,7 +452,7 @@ fn both_tables_cast_the_same_packets(rt: HostRuntime) -> Result<(), Fail> {
     Ok(())
 }
 
-// A node is given a datum, hears of a route, hears that the route is lost, and asks again: whether
+// A node is given a datum, hears of a route, hears that the route is lost, and asks for it: whether
 // it took the datum, could send nothing without a route, and could lose its link at the end.
 fn loses_its_route<T: Table>(
     alloc: Global,

@@ -1,4 +1,4 @@
-//! A schedule with each kind of line, made by another program from the same seed.
+//! A schedule with each kind of line that `make` writes, from another program with the same seed.
 use mesh_io::{MemSink, Source};
 use mesh_make::{MadeSource, make};
 use std::test::Fail;

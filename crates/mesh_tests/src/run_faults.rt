@@ -222,7 +222,7 @@ fn a_failed_read_leaves_the_text_of_the_lines_before_it(rt: HostRuntime) -> Resu
     Ok(())
 }
 
-// How long the text is that this many calls have put, each of which takes five bytes. The text of
+// How long the text is that this many calls have put, each of at most five bytes. The text of
 // the lines is handed on before the end of the input is read, and the last line after it.
 fn text_put(calls: usize) -> usize
     requires { calls < 39 }

@@ -37,7 +37,7 @@ fn same(a: Option<Entry>, b: Option<Entry>) -> bool {
     }
 }
 
-// The entries that are in more than one of the rows below.
+// The entries that occur more than once in the rows below.
 fn used() -> Entry {
     used_by(entry(5, Known::Kno, Flag::Val, 3, 1), 4)
 }

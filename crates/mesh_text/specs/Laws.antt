@@ -95,7 +95,7 @@ RunIsRunOfEvents = (variant : Variant) (input : List ℕ)
     → world_of (text_of_input variant input).after
     ≡ world_after variant input (text_of_input variant input).after.sums.events
 
--- the same holds for each state before: after the first i lines, if all of them were allowed, and k
+-- the same holds for each state before: after the first i lines, if all of them were done, and k
 -- events of the next line
 abbrev pub StateIsOfRun : Type 0
 StateIsOfRun = (variant : Variant) (input : List ℕ) (i k : ℕ)

@@ -18,7 +18,7 @@ pub fn a_read_line_is_written_as_it_was()
     ensures { ReadLineIsWrittenAsItWas }
 {}
 
-/// At the end of every run the counts of data add up: as many were given and doubled as were
+/// After the last allowed line the counts of data add up: as many were given and doubled as were
 /// delivered, wait, are in flight, and were dropped.
 pub fn data_are_accounted_for()
     ensures { DataAreAccountedFor }

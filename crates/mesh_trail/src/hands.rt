@@ -129,7 +129,7 @@ fn written_of(room: Room, rows: &[Walk], x: usize, heard: Said, list: &[usize], 
     }
 }
 
-/// The list of what node x has cast after it took the front item of its queue, whose list is in
+/// The list of what x has cast of its own accord, or after it took its front item, whose list is in
 /// hand.
 pub(crate) fn list_for(
     alloc: Global,

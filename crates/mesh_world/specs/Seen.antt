@@ -48,7 +48,8 @@ data_of w = waiting any w + queued_data any w + in_flight any w
 
 -- what every world of the program keeps: there is a node for each address of the mesh; the
 -- invariant holds; so no destination has a cycle, and along edges between valid entries the next
--- one is the better; a step brings at most one datum; and there were at most 2^48 steps
+-- one is the better, unless it is the destination's own; a step brings at most one datum; and there
+-- were at most 2^48 steps
 pub record IsSoundWorld (w : WorldSeen) : Type 0 where
   pub mesh : IsMesh w.mesh
   pub some : 1 ≤ length w.mesh
