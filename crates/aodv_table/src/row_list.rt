@@ -10,8 +10,7 @@ use std::alloc::Global;
 use std::marker::Model;
 
 /// A list of entries, any of which may be missing. Their precursors are kept in a list of their
-/// own: most events don't read them, and without them a row takes 16 bytes, so that more rows stay
-/// in the processor's cache.
+/// own: without them a row takes 16 bytes, so that more rows stay in the processor's cache.
 #[derive(Drop)]
 pub(crate) struct RowList {
     rows: Vec<Row>,
