@@ -10,4 +10,5 @@ pub mod Following
 pub mod Ahead
 pub mod Staying
 pub mod Readers
+pub mod Shifting
 pub mod Lending

@@ -12,19 +12,21 @@ const SIZE: usize = 65536;
 /// Memory for 65536 bytes. In contracts it is the bytes that are gathered in it.
 #[derive(Drop)]
 pub struct ReservedBuffer {
-    bytes: Vec<u8>,
+    // Always 65536 bytes: a piece is copied into them, and the vector isn't extended.
+    cells: Vec<u8>,
+    // How many bytes are gathered: the first ones.
+    len: usize,
 }
 
 impl Model for ReservedBuffer {
-    ghost use Rattle.std.specs.Prelude.{List, ℕ, ◌≤◌, length, vec_capacity};
+    ghost use Rattle.std.specs.Prelude.{List, ℕ, ◌≡◌, ◌≤◌, length, take};
     ghost use Rattle.mesh_io.specs.BufferSize.{buffer_size};
 
     ghost Value = { List ℕ };
 
-    ghost view = { λ r. r.bytes.items };
+    ghost view = { λ r. take r.len r.cells.items };
 
-    ghost invariant = { λ r.
-        (length r.bytes.items ≤ buffer_size) × (buffer_size ≤ vec_capacity r.bytes) };
+    ghost invariant = { λ r. (r.len ≤ buffer_size) × (length r.cells.items ≡ buffer_size) };
 }
 
 impl ReservedBuffer {
@@ -33,7 +35,8 @@ impl ReservedBuffer {
         ensures { IfOk result (λ room. room ≡ []) }
     {
         Ok(ReservedBuffer {
-            bytes: Vec::with_capacity(alloc, SIZE)?,
+            cells: vec![in alloc; 0; SIZE]?,
+            len: 0,
         })
     }
 
@@ -41,7 +44,7 @@ impl ReservedBuffer {
     pub(crate) fn bytes(&self) -> &[u8]
         ensures { result.now ≡ self.now }
     {
-        self.bytes.as_slice()
+        &self.cells[..self.len]
     }
 
     /// Whether there is no room for one more.
@@ -49,7 +52,7 @@ impl ReservedBuffer {
         ensures full { IsTrue result ↔ (buffer_size ≤ length self.now) }
         ensures most { length self.now ≤ buffer_size }
     {
-        self.bytes.len() == SIZE
+        self.len == SIZE
     }
 
     /// Gathers as much of the piece as there is room for, and returns how many bytes.
@@ -57,11 +60,11 @@ impl ReservedBuffer {
         ensures count { result ≡ min (length piece.now) (buffer_size - length self.old) }
         ensures gathered { self.new ≡ self.old ++ take result piece.now }
     {
-        let n = piece.len().min(SIZE - self.bytes.len());
-        match self.bytes.extend_from_slice(&piece[..n]) {
-            Ok(()) => n,
-            Err(_) => unreachable!(),
-        }
+        let n = piece.len().min(SIZE - self.len);
+        let end = self.len + n;
+        self.cells[self.len..end].copy_from_slice(&piece[..n]);
+        self.len = end;
+        n
     }
 
     /// Removes the first n bytes.
@@ -69,15 +72,14 @@ impl ReservedBuffer {
         requires { n ≤ length self.old }
         ensures { self.new ≡ drop n self.old }
     {
-        let len = self.bytes.len();
-        self.bytes.as_mut_slice().copy_within(n..len, 0);
-        self.bytes.truncate(len - n);
+        self.cells.copy_within(n..self.len, 0);
+        self.len -= n;
     }
 
     /// Removes all bytes.
     pub(crate) fn clear(&mut self)
         ensures { self.new ≡ [] }
     {
-        self.bytes.clear();
+        self.len = 0;
     }
 }
