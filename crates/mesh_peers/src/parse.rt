@@ -174,7 +174,7 @@ pub fn parse_node_line<'a>(
 {
     // There are at most 200 nodes.
     let _nodes = peers.mesh().len();
-    match &shape_of(bytes) {
+    match &shape_of(peers.mesh(), bytes) {
         Ok(said) => line_at(said, peers, started, bytes.len()),
         Err(fault) => Err(*fault),
     }

@@ -6,7 +6,7 @@ ghost use Rattle.mesh_peers.specs.Seen.{row_with, seen_shape};
 
 use crate::command::Command;
 use crate::limits::{GREATEST_PORT, MOST_AT_ONCE};
-use mesh_base::cut;
+use mesh_base::{Mesh, cut};
 use mesh_grammar::{Form, LineFault};
 use mesh_script::{Arguments, SpannedAddr, arguments_of, is_blank, is_word, next_at, span_at};
 
@@ -58,7 +58,7 @@ fn row_of(word: &[u8]) -> Option<Row>
 
 /// What a line says by itself, or its first fault. A blank line says nothing.
 #[tactic(auto, unfolding(mesh_grammar::specs::Scripts::shape_by))]
-pub fn shape_of(line: &[u8]) -> Result<Option<Shape<'_>>, LineFault>
+pub fn shape_of<'a>(mesh: &Mesh, line: &'a [u8]) -> Result<Option<Shape<'a>>, LineFault>
     ensures { seen_shape result ≡ commands.shape_of line.now }
 {
     if is_blank(line) {
@@ -70,7 +70,7 @@ pub fn shape_of(line: &[u8]) -> Result<Option<Shape<'_>>, LineFault>
     let Some(row) = row_of(word) else {
         return Err(LineFault::Word(span_at(0, word)));
     };
-    let arguments = arguments_of(row.form, next_at(0, word), arguments)?;
+    let arguments = arguments_of(mesh, row.form, next_at(0, word), arguments)?;
     Ok(Some(Shape {
         command: row.command,
         arguments,

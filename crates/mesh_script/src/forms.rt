@@ -6,7 +6,7 @@ ghost use Rattle.mesh_grammar.specs.Forms as forms;
 ghost use Rattle.mesh_script.specs.Arguments.{all_spanned_in};
 
 use crate::words::{SpannedAddr, address, next_at, number, text};
-use mesh_base::cut;
+use mesh_base::{Mesh, cut};
 use mesh_grammar::{Form, LineFault};
 
 /// The arguments of a command, with an `A` for each address: an address with its span when a line
@@ -46,7 +46,7 @@ fn no_argument(arguments: Option<&[u8]>) -> Read<'static>
 // An address has no space, so the only argument is searched for a second word only if it isn't an
 // address.
 #[tactic(auto, using(crate::proofs::Cuts::one_address_more))]
-fn one_address(at: usize, arguments: Option<&[u8]>) -> Read<'static>
+fn one_address(mesh: &Mesh, at: usize, arguments: Option<&[u8]>) -> Read<'static>
     requires { IfSome arguments (λ words. at + length words.now < slice_end) }
     ensures { all_spanned_in result
         ≡ forms.one_address at (rest_parts 32 arguments.entry) forms.OneAddress }
@@ -54,7 +54,7 @@ fn one_address(at: usize, arguments: Option<&[u8]>) -> Read<'static>
     let Some(words) = arguments else {
         return Err(LineFault::Count);
     };
-    let fault = match address(at, words) {
+    let fault = match address(mesh, at, words) {
         Ok(spanned) => return Ok(Arguments::OneAddress(spanned)),
         Err(fault) => fault,
     };
@@ -66,7 +66,7 @@ fn one_address(at: usize, arguments: Option<&[u8]>) -> Read<'static>
 }
 
 #[tactic(auto, using(crate::proofs::Cuts::two_addresses_more))]
-fn two_addresses(at: usize, arguments: Option<&[u8]>) -> Read<'static>
+fn two_addresses(mesh: &Mesh, at: usize, arguments: Option<&[u8]>) -> Read<'static>
     requires { IfSome arguments (λ words. at + length words.now < slice_end) }
     ensures { all_spanned_in result
         ≡ forms.two_addresses at (rest_parts 32 arguments.entry) forms.TwoAddresses }
@@ -83,8 +83,8 @@ fn two_addresses(at: usize, arguments: Option<&[u8]>) -> Read<'static>
         return Err(LineFault::Count);
     }
     let second_at = next_at(at, first);
-    let a = address(at, first)?;
-    let b = address(second_at, second)?;
+    let a = address(mesh, at, first)?;
+    let b = address(mesh, second_at, second)?;
     Ok(Arguments::TwoAddresses(a, b))
 }
 
@@ -111,7 +111,7 @@ fn one_number(most: u64, at: usize, arguments: Option<&[u8]>) -> Read<'static>
 
 // `ADDR sn NUM`: `word` is ADDR, and `others` is what follows it and its space.
 #[tactic(auto, using(crate::proofs::Cuts::numbered_address_more), unfolding(mesh_grammar::specs::Forms::numbered_address))]
-fn address_sn(at: usize, word: &[u8], others: &[u8]) -> Read<'static>
+fn address_sn(mesh: &Mesh, at: usize, word: &[u8], others: &[u8]) -> Read<'static>
     requires { at + length word.now + 1 + length others.now < slice_end }
     ensures { all_spanned_in result
         ≡ forms.numbered_address at (word.now ∷ parts 32 others.now) forms.NumberedAddress }
@@ -129,13 +129,13 @@ fn address_sn(at: usize, word: &[u8], others: &[u8]) -> Read<'static>
     }
     let sn_at = next_at(at, word);
     let first_at = next_at(sn_at, sn);
-    let a = address(at, word)?;
+    let a = address(mesh, at, word)?;
     let first = number(u64::from(u32::MAX), first_at, first)?;
     Ok(Arguments::NumberedAddress(a, first as u32))
 }
 
 #[tactic(auto, unfolding(mesh_grammar::specs::Forms::numbered_address))]
-fn numbered_address(at: usize, arguments: Option<&[u8]>) -> Read<'static>
+fn numbered_address(mesh: &Mesh, at: usize, arguments: Option<&[u8]>) -> Read<'static>
     requires { IfSome arguments (λ words. at + length words.now < slice_end) }
     ensures { all_spanned_in result
         ≡ forms.numbered_address at (rest_parts 32 arguments.entry) forms.NumberedAddress }
@@ -145,15 +145,15 @@ fn numbered_address(at: usize, arguments: Option<&[u8]>) -> Read<'static>
     };
     let (word, others) = cut(words, b' ');
     let Some(others) = others else {
-        let a = address(at, word)?;
+        let a = address(mesh, at, word)?;
         return Ok(Arguments::NumberedAddress(a, 1));
     };
-    address_sn(at, word, others)
+    address_sn(mesh, at, word, others)
 }
 
 // The text is all that follows the second address and its space.
 #[tactic(auto, using(crate::proofs::Cuts::addresses_and_text_of), unfolding(mesh_grammar::specs::Forms::addresses_and_text))]
-fn addresses_and_text(at: usize, arguments: Option<&[u8]>) -> Read<'_>
+fn addresses_and_text<'a>(mesh: &Mesh, at: usize, arguments: Option<&'a [u8]>) -> Read<'a>
     requires { IfSome arguments (λ words. at + length words.now < slice_end) }
     ensures { all_spanned_in result
         ≡ forms.addresses_and_text at (rest_parts 32 arguments.entry) forms.AddressesAndText }
@@ -171,14 +171,14 @@ fn addresses_and_text(at: usize, arguments: Option<&[u8]>) -> Read<'_>
     };
     let second_at = next_at(at, first);
     let body_at = next_at(second_at, second);
-    let a = address(at, first)?;
-    let b = address(second_at, second)?;
+    let a = address(mesh, at, first)?;
+    let b = address(mesh, second_at, second)?;
     let text = text(body_at, body)?;
     Ok(Arguments::AddressesAndText(a, b, text))
 }
 
 #[tactic(auto, using(crate::proofs::Cuts::address_and_number_more))]
-fn address_and_number(most: u64, at: usize, arguments: Option<&[u8]>) -> Read<'static>
+fn address_and_number(mesh: &Mesh, most: u64, at: usize, arguments: Option<&[u8]>) -> Read<'static>
     requires { IfSome arguments (λ words. at + length words.now < slice_end) }
     ensures { all_spanned_in result
         ≡ forms.address_and_number most at (rest_parts 32 arguments.entry) forms.AddressAndNumber }
@@ -194,14 +194,14 @@ fn address_and_number(most: u64, at: usize, arguments: Option<&[u8]>) -> Read<'s
     if let Some(_more) = more {
         return Err(LineFault::Count);
     }
-    let a = address(at, word)?;
+    let a = address(mesh, at, word)?;
     let n = number(most, next_at(at, word), second)?;
     Ok(Arguments::AddressAndNumber(a, n))
 }
 
 // The text is all that follows the address and its space.
 #[tactic(auto, using(crate::proofs::Cuts::address_and_text_of), unfolding(mesh_grammar::specs::Forms::address_and_text))]
-fn address_and_text(at: usize, arguments: Option<&[u8]>) -> Read<'_>
+fn address_and_text<'a>(mesh: &Mesh, at: usize, arguments: Option<&'a [u8]>) -> Read<'a>
     requires { IfSome arguments (λ words. at + length words.now < slice_end) }
     ensures { all_spanned_in result
         ≡ forms.address_and_text at (rest_parts 32 arguments.entry) forms.AddressAndText }
@@ -213,25 +213,26 @@ fn address_and_text(at: usize, arguments: Option<&[u8]>) -> Read<'_>
     let Some(body) = body else {
         return Err(LineFault::Count);
     };
-    let a = address(at, word)?;
+    let a = address(mesh, at, word)?;
     let text = text(next_at(at, word), body)?;
     Ok(Arguments::AddressAndText(a, text))
 }
 
 /// The arguments of this form, or the first fault. `arguments` are the bytes after the command and
-/// its space, which begin at `at`, or None if there is no space.
-pub fn arguments_of(form: Form, at: usize, arguments: Option<&[u8]>) -> Read<'_>
+/// its space, which begin at `at`, or None if there is no space. The mesh affects only how long
+/// this takes: addresses that begin as most of its own do are read faster.
+pub fn arguments_of<'a>(mesh: &Mesh, form: Form, at: usize, arguments: Option<&'a [u8]>) -> Read<'a>
     requires { IfSome arguments (λ words. at + length words.now < slice_end) }
     ensures { all_spanned_in result ≡ forms.arguments_of form at (rest_parts 32 arguments.entry) }
 {
     match form {
         Form::Bare => no_argument(arguments),
-        Form::Address => one_address(at, arguments),
-        Form::Addresses => two_addresses(at, arguments),
+        Form::Address => one_address(mesh, at, arguments),
+        Form::Addresses => two_addresses(mesh, at, arguments),
         Form::Number { most } => one_number(most, at, arguments),
-        Form::Numbered => numbered_address(at, arguments),
-        Form::Text => addresses_and_text(at, arguments),
-        Form::AddressNumber { most } => address_and_number(most, at, arguments),
-        Form::AddressText => address_and_text(at, arguments),
+        Form::Numbered => numbered_address(mesh, at, arguments),
+        Form::Text => addresses_and_text(mesh, at, arguments),
+        Form::AddressNumber { most } => address_and_number(mesh, most, at, arguments),
+        Form::AddressText => address_and_text(mesh, at, arguments),
     }
 }

@@ -181,7 +181,7 @@ pub fn parse_line<'a>(bytes: &'a [u8], mesh: &Mesh, started: bool) -> Result<Lin
     if let Some(line) = fast_line(bytes, mesh) {
         return Ok(line);
     }
-    match &shape_of(bytes) {
+    match &shape_of(mesh, bytes) {
         Ok(said) => line_at(said, mesh, started),
         Err(fault) => Err(*fault),
     }

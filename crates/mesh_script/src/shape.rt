@@ -6,7 +6,7 @@ ghost use Rattle.mesh_script.specs.Shapes.{row_with, seen_shape};
 
 use crate::forms::{Arguments, arguments_of};
 use crate::words::{SpannedAddr, is_blank, is_word, next_at, span_at};
-use mesh_base::{MOST_EVENTS, cut};
+use mesh_base::{MOST_EVENTS, Mesh, cut};
 use mesh_grammar::{Command, Form, LineFault};
 
 /// A command with its arguments.
@@ -56,7 +56,7 @@ fn row_of(word: &[u8]) -> Option<Row>
 
 /// What a line says by itself, or its first fault. A blank line says nothing.
 #[tactic(auto, unfolding(mesh_grammar::specs::Scripts::shape_by))]
-pub fn shape_of(line: &[u8]) -> Result<Option<Shape<'_>>, LineFault>
+pub fn shape_of<'a>(mesh: &Mesh, line: &'a [u8]) -> Result<Option<Shape<'a>>, LineFault>
     ensures { seen_shape result ≡ commands.shape_of line.now }
 {
     if is_blank(line) {
@@ -68,7 +68,7 @@ pub fn shape_of(line: &[u8]) -> Result<Option<Shape<'_>>, LineFault>
     let Some(row) = row_of(word) else {
         return Err(LineFault::Word(span_at(0, word)));
     };
-    let arguments = arguments_of(row.form, next_at(0, word), arguments)?;
+    let arguments = arguments_of(mesh, row.form, next_at(0, word), arguments)?;
     Ok(Some(Shape {
         command: row.command,
         arguments,

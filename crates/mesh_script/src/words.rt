@@ -7,7 +7,7 @@ ghost use Rattle.mesh_base.specs.Numbers as numbers;
 ghost use Rattle.mesh_grammar.specs.Words as words;
 ghost use Rattle.mesh_script.specs.Arguments.{spanned_of};
 
-use mesh_base::{Addr, LONGEST_DATUM, number_up_to};
+use mesh_base::{Addr, LONGEST_DATUM, Mesh, number_up_to};
 use mesh_grammar::{LineFault, Span};
 
 /// An address that a line names, and where in the line it is.
@@ -79,9 +79,10 @@ pub fn next_at(at: usize, word: &[u8]) -> usize
     at + word.len() + 1
 }
 
-/// A word as an address.
+/// A word as an address. The mesh affects only how long this takes: an address that begins as most
+/// of its own do is read faster.
 #[inline(always)]
-pub fn address(at: usize, word: &[u8]) -> Result<SpannedAddr, LineFault>
+pub fn address(mesh: &Mesh, at: usize, word: &[u8]) -> Result<SpannedAddr, LineFault>
     requires { at + length word.now < slice_end }
     ensures value { IfOk result (λ a. address_of word.now ≡ Some (spanned_of a).address) }
     ensures span { IfOk result (λ a. (spanned_of a).span ≡ words.span_at at word.now) }
@@ -89,7 +90,7 @@ pub fn address(at: usize, word: &[u8]) -> Result<SpannedAddr, LineFault>
     ensures fault { IfErr result (λ f. f ≡ LineFault.BadAddress (words.span_at at word.now)) }
 {
     let span = span_at(at, word);
-    match Addr::parse(word) {
+    match mesh.parse_addr(word) {
         Some(addr) => Ok(SpannedAddr { addr, span }),
         None => Err(LineFault::BadAddress(span)),
     }
