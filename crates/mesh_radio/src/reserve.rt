@@ -95,16 +95,29 @@ impl Reserve {
     /// The bytes of a packet of which this many copies fly, in the memory of at most one room. What
     /// the packet doesn't need of a long room is given back, so that a packet takes up its own
     /// length.
+    #[inline(always)]
     pub fn fill(&mut self, bytes: &[u8], copies: usize) -> Bytes
         requires room { (1 ≤ copies) × (copies ≤ self.old.room) }
         requires fits { length bytes.now ≤ self.old.most }
         ensures bytes { result ≡ bytes.now }
         ensures room { self.new ≡ record self.old { room = self.old.room - copies } }
     {
-        self.packets -= copies;
         if let Some(own) = Bytes::short(bytes) {
+            self.packets -= copies;
             return own;
         }
+        self.fill_room(bytes, copies)
+    }
+
+    // `fill`, for a packet that needs a room.
+    #[inline(never)]
+    fn fill_room(&mut self, bytes: &[u8], copies: usize) -> Bytes
+        requires room { (1 ≤ copies) × (copies ≤ self.old.room) }
+        requires fits { length bytes.now ≤ self.old.most }
+        ensures bytes { result ≡ bytes.now }
+        ensures room { self.new ≡ record self.old { room = self.old.room - copies } }
+    {
+        self.packets -= copies;
         if bytes.len() <= SHORT {
             return self.short.take().fill(bytes);
         }
