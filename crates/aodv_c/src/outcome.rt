@@ -1,8 +1,8 @@
 //! What a call leaves in the caller's own memory. A list there is an array and how many of its
 //! first elements count; the others are 0.
-ghost use Rattle.std.specs.Prelude.{◌≡◌, length, take, unwrap_or};
+ghost use Rattle.std.specs.Prelude.{◌≡◌, unwrap_or};
 ghost use Rattle.aodv_c.specs.Codes.{code_of, turn_code, send_code, ask_code, entry_code};
-ghost use Rattle.aodv_c.specs.Laid.{LaysOut, IsLaid, LaysAddrs, LaysRow, IsRowLaid};
+ghost use Rattle.aodv_c.specs.Laid.{padded, LaysOut, IsLaid, LaysAddrs, LaysRow, IsRowLaid};
 
 use crate::codes::{
     DONE, NO_ENTRY, STRANGER, ask_code, cast_code, dest_of, from_of, send_code, took_code,
@@ -79,7 +79,7 @@ pub struct Row {
 // ---- lists
 
 fn addrs_of(addrs: &aodv_router::Addrs) -> [u32; MOST_NODES]
-    ensures { take (length addrs.now.items) result ≡ addrs.now.items }
+    ensures { result ≡ padded MOST_NODES addrs.now.items }
 {
     let mut list = [0; MOST_NODES];
     let from = addrs.as_slice();
@@ -88,7 +88,7 @@ fn addrs_of(addrs: &aodv_router::Addrs) -> [u32; MOST_NODES]
 }
 
 fn packet_of(packet: &Packet) -> [u8; LONGEST_PACKET]
-    ensures { take (length packet.now.items) result ≡ packet.now.items }
+    ensures { result ≡ padded LONGEST_PACKET packet.now.items }
 {
     let mut list = [0; LONGEST_PACKET];
     let from = packet.as_slice();
@@ -97,7 +97,7 @@ fn packet_of(packet: &Packet) -> [u8; LONGEST_PACKET]
 }
 
 fn body_of(body: &Body) -> [u8; LONGEST_DATUM]
-    ensures { take (length body.now.items) result ≡ body.now.items }
+    ensures { result ≡ padded LONGEST_DATUM body.now.items }
 {
     let mut list = [0; LONGEST_DATUM];
     let from = body.as_slice();
