@@ -1,4 +1,5 @@
 -- What the usual lines come to.
+use Rattle.std.specs.Prelude.{codes}
 use Rattle.std.proofs.Common.{◌≡◌, ℕ, Bool, List, [], ◌∷◌, ◌++◌, Some, Result, Ok, take, drop, refl, sym, ap, ◌∙◌}
 use Rattle.std.proofs.lemmas.List.{take-append-drop}
 use Rattle.std.proofs.lemmas.Option.{none-some}
@@ -30,7 +31,7 @@ some_nodes [] a x r is = absurd (none-some x is)
 some_nodes (p ∷ ps) a x r is = refl
 
 pub turn_line : (mesh : Nodes) (started : Bool) (word : List ℕ) (a x : ℕ) → address_of word ≡ Some a → index_of mesh a ≡ Some x
-    → line_of mesh started (116 ∷ 117 ∷ 114 ∷ 110 ∷ 32 ∷ word) ≡ Ok (Does (Turn x))
+    → line_of mesh started (codes "turn " ++ word) ≡ Ok (Does (Turn x))
 unfolding line_of shape_by
 turn_line mesh started word a x reads is =
     let m : SpannedAddr = record { address = a; span = span_at 5 word } in
@@ -38,7 +39,7 @@ turn_line mesh started word a x reads is =
     ∙ (some_nodes mesh a x _ is ∙ rw is refl)
 
 pub delivery_line : (mesh : Nodes) (started : Bool) (word : List ℕ) (id : ℕ) → ((line : Result AcceptedLine LineFault) → after_nodes mesh line ≡ line) → positive (number_up_to greatest_id word) ≡ Some id
-    → line_of mesh started (100 ∷ 101 ∷ 108 ∷ 105 ∷ 118 ∷ 101 ∷ 114 ∷ 32 ∷ word) ≡ Ok (Does (Deliver id))
+    → line_of mesh started (codes "deliver " ++ word) ≡ Ok (Does (Deliver id))
 unfolding line_of shape_by
 delivery_line mesh started word id nodes reads =
     ap (λ r. result_and_then (accepted_shape mesh started) (shape_with command.Deliver r)) (only_number greatest_id 8 word id reads forms.OneNumber)

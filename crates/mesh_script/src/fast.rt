@@ -1,6 +1,6 @@
 //! Turns and deliveries: most lines of a long schedule are one of these, and they are read without
 //! looking for words.
-ghost use Rattle.std.specs.Prelude.{◌≡◌, ◌+◌, ◌<◌, ◌∷◌, Bool, length, IfSome, Ok};
+ghost use Rattle.std.specs.Prelude.{◌≡◌, ◌+◌, ◌<◌, ◌++◌, Bool, codes, length, IfSome, Ok};
 ghost use Rattle.mesh_base.specs.Bounds.{slice_end};
 ghost use Rattle.mesh_text.specs.Schedule.{line_of};
 ghost use Rattle.mesh_script.specs.Seen.{accepted_of};
@@ -14,7 +14,7 @@ use mesh_base::{Event, Mesh, are_equal};
 #[tactic(auto, using(crate::proofs::FastLines::turn_line))]
 fn turn<'a>(word: &[u8], mesh: &Mesh) -> Option<Line<'a>>
     ensures { IfSome result (λ l. (started : Bool) → line_of mesh.now started
-        (116 ∷ 117 ∷ 114 ∷ 110 ∷ 32 ∷ word.now) ≡ Ok (accepted_of l)) }
+        (codes "turn " ++ word.now) ≡ Ok (accepted_of l)) }
 {
     let addr = mesh.parse_addr(word)?;
     let node = mesh.index_of(addr)?;
@@ -26,7 +26,7 @@ fn turn<'a>(word: &[u8], mesh: &Mesh) -> Option<Line<'a>>
 fn delivery<'a>(word: &[u8], mesh: &Mesh) -> Option<Line<'a>>
     requires { 8 + length word.now < slice_end }
     ensures { IfSome result (λ l. (started : Bool) → line_of mesh.now started
-        (100 ∷ 101 ∷ 108 ∷ 105 ∷ 118 ∷ 101 ∷ 114 ∷ 32 ∷ word.now) ≡ Ok (accepted_of l)) }
+        (codes "deliver " ++ word.now) ≡ Ok (accepted_of l)) }
 {
     after_nodes(mesh).ok()?;
     let id = number(u64::MAX, 8, word).ok()?;
@@ -36,7 +36,7 @@ fn delivery<'a>(word: &[u8], mesh: &Mesh) -> Option<Line<'a>>
 // What follows `turn` and its space, if the bytes begin with them.
 #[inline(always)]
 fn after_turn(bytes: &[u8]) -> Option<&[u8]>
-    ensures { IfSome result (λ word. bytes.now ≡ 116 ∷ 117 ∷ 114 ∷ 110 ∷ 32 ∷ word.now) }
+    ensures { IfSome result (λ word. bytes.now ≡ codes "turn " ++ word.now) }
 {
     let (name, rest) = bytes.split_first_chunk::<4>()?;
     match rest {
@@ -49,7 +49,7 @@ fn after_turn(bytes: &[u8]) -> Option<&[u8]>
 #[inline(always)]
 fn after_deliver(bytes: &[u8]) -> Option<&[u8]>
     ensures { IfSome result
-        (λ word. bytes.now ≡ 100 ∷ 101 ∷ 108 ∷ 105 ∷ 118 ∷ 101 ∷ 114 ∷ 32 ∷ word.now) }
+        (λ word. bytes.now ≡ codes "deliver " ++ word.now) }
 {
     let (front, rest) = bytes.split_first_chunk::<4>()?;
     let (back, word) = rest.split_first_chunk::<4>()?;
