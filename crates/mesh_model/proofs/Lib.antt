@@ -15,7 +15,11 @@ pub mod LeastPicks
 pub mod Sizes
 pub mod MeshSteps
 pub mod TrailTables
+pub mod Stems
+pub mod Listed
+pub mod CastWalks
 pub mod TrailTurns
+pub mod Stays
 pub mod TrailSteps
 pub mod Honest
 pub mod Totals

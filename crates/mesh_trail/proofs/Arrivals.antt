@@ -21,7 +21,7 @@ use Rattle.mesh_world.proofs.Arrivals.{map-push}
 use Rattle.mesh_world.proofs.Frames.{each_set}
 use Rattle.mesh_world.specs.Seen.{WorldSeen, IsSoundWorld}
 use Rattle.mesh_world.specs.Steps.{IsDone}
-use Rattle.mesh_trail.specs.Kept.{KeptLists, lists_after, walked_by, with_item}
+use Rattle.mesh_model.specs.Kept.{KeptLists, lists_after, walked_by, with_item}
 use Rattle.mesh_trail.specs.Lists.{IsPushed, IsRoomed, row}
 use Rattle.mesh_trail.specs.Casts.{list_of}
 use Rattle.mesh_trail.specs.Steps.{hears, idles}

@@ -13,7 +13,7 @@ use Rattle.aodv_model.specs.declared.entry.Flag.TheVariants.{Inv, Val}
 use Rattle.mesh_model.specs.Trails.{around}
 use Rattle.mesh_model.specs.Walks.{rt_in, table}
 use Rattle.mesh_model.specs.Worlds.{Node}
-use Rattle.mesh_trail.specs.Held.{IsEntryWalk, NodeHolds}
+use Rattle.mesh_model.specs.Held.{IsEntryWalk, NodeHolds}
 use Rattle.mesh_world.specs.Seen.{WorldSeen}
 use Rattle.mesh_trail.specs.declared.heard.Front.{Front}
 use Rattle.mesh_trail.specs.declared.heard.Front.TheVariants as fronts

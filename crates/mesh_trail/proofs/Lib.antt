@@ -1,9 +1,4 @@
-pub mod Stems
-pub mod Listed
-pub mod CastWalks
-pub mod Stays
 pub mod Steps
-pub mod Turned
 pub mod Gets
 pub mod Positions
 pub mod Fronts

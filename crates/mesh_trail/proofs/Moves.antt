@@ -10,8 +10,8 @@ use Rattle.mesh_model.specs.Trails.{around}
 use Rattle.mesh_model.proofs.Lists.{each_map}
 use Rattle.mesh_model.proofs.OnlyNumbers.{only_numbers_fill}
 use Rattle.mesh_meaning.specs.Packets.{copy_in}
-use Rattle.mesh_trail.specs.Kept.{KeptLists, from_id_on, lists_after}
-use Rattle.mesh_trail.specs.Held.{CopyHolds, Holds, IsEntryWalk, ItemsHold, MessageHolds, NodeHolds}
+use Rattle.mesh_model.specs.Kept.{KeptLists, from_id_on, lists_after}
+use Rattle.mesh_model.specs.Held.{CopyHolds, Holds, IsEntryWalk, ItemsHold, MessageHolds, NodeHolds}
 use Rattle.mesh_trail.proofs.Steps.{both, id_after, id_before, step_holds}
 use Rattle.mesh_world.specs.Seen.{WorldSeen, IsSoundWorld}
 use Rattle.mesh_world.specs.Steps.{IsDone, IsStep}

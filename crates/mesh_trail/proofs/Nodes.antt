@@ -14,7 +14,7 @@ use Rattle.mesh_base.specs.declared.events.Done.{Done}
 use Rattle.mesh_world.proofs.Frames.{each_get, each_set, set_got}
 use Rattle.mesh_world.specs.Seen.{WorldSeen, IsSoundWorld}
 use Rattle.mesh_world.specs.Steps.{IsStep}
-use Rattle.mesh_trail.specs.Kept.{KeptLists, lists_after, walked_by, changed_at}
+use Rattle.mesh_model.specs.Kept.{KeptLists, lists_after, walked_by, changed_at}
 use Rattle.mesh_trail.specs.Lists.{row}
 use Rattle.mesh_trail.specs.Casts.{list_of}
 use Rattle.mesh_trail.specs.Steps.{MovesNothing}

@@ -10,8 +10,8 @@ use Rattle.aodv_model.specs.Tables.{Table}
 use Rattle.aodv_model.specs.Cores.{Message, Pkt, Rreq, Rrep, Rerr}
 use Rattle.mesh_model.proofs.Lists.{set_other}
 use Rattle.mesh_world.proofs.Frames.{set_got}
-use Rattle.mesh_trail.specs.Kept as walks
-use Rattle.mesh_trail.specs.Kept.{entries_after, entry_list, is_near, is_told, is_route, first_list, own_list}
+use Rattle.mesh_model.specs.Kept as walks
+use Rattle.mesh_model.specs.Kept.{entries_after, entry_list, is_near, is_told, is_route, first_list, own_list}
 use Rattle.mesh_trail.specs.declared.said.Said.{Said}
 use Rattle.mesh_trail.specs.declared.heard.Front.TheVariants as fronts
 use Rattle.mesh_trail.specs.Said.{said_of, IsSaidIn}

@@ -17,7 +17,7 @@ use Rattle.mesh_meaning.specs.Answers.{IsCastWritten, IsDoneInMesh, cast_in, wor
 use Rattle.mesh_meaning.specs.Events.{node_of}
 use Rattle.mesh_world.specs.Seen.{WorldSeen, IsSoundWorld}
 use Rattle.mesh_world.specs.Steps.{IsDone}
-use Rattle.mesh_trail.specs.Kept.{KeptLists, copies_in, from_id_on, own_list, lists_after, walked_by, with_copies}
+use Rattle.mesh_model.specs.Kept.{KeptLists, copies_in, from_id_on, own_list, lists_after, walked_by, with_copies}
 use Rattle.mesh_trail.specs.Said.{said_of}
 use Rattle.mesh_trail.specs.Casts.{list_of}
 use Rattle.mesh_trail.specs.Steps.{IsOwnOf, sent_after}

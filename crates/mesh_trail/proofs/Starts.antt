@@ -15,9 +15,9 @@ use Rattle.mesh_model.specs.Trails.{IsHonestWalk}
 use Rattle.mesh_model.specs.Walks.{rt_in, table}
 use Rattle.mesh_model.specs.Worlds.{AreFirstNumbers, World, first_numbers, run, start}
 use Rattle.mesh_world.specs.Seen.{WorldSeen, IsSoundWorld, node_in, opening}
-use Rattle.mesh_trail.specs.Kept.{nothing_kept}
-use Rattle.mesh_trail.specs.Held.{Holds}
-use Rattle.mesh_trail.proofs.Turned.{held_is_honest, start_holds}
+use Rattle.mesh_model.specs.Kept.{nothing_kept}
+use Rattle.mesh_model.specs.Held.{Holds}
+use Rattle.mesh_model.proofs.Honest.{held_is_honest, start_holds}
 use Rattle.mesh_trail.specs.Walks.{IsRouteWalk}
 use Rattle.mesh_trail.specs.Lists.{IsBlank, list_in, row}
 use Rattle.mesh_trail.specs.Trails.{AreWalks, kept_lists, queue_of, rows_of}

@@ -6,7 +6,7 @@ use Rattle.std.proofs.lemmas.Bool.{eqb-true, eqb-false}
 use Rattle.std.proofs.lemmas.Bool.Decides.{nat_tests}
 use Rattle.std.proofs.lemmas.Option.{same_Some}
 use Rattle.std.specs.FinSet as sets
-use Rattle.aodv_model.specs.Cores.{Body, Core, Heard, Item, Message, New, Pkt, Rerr, Rrep, Rreq}
+use Rattle.aodv_model.specs.Cores.{Body, Core, Heard, Item, Message, New}
 use Rattle.aodv_model.specs.Handlers.{All, Cast, Many, Nothing, One, Reaction, ask, send, turn}
 use Rattle.mesh_base.specs.declared.events.Variant.{Variant}
 use Rattle.mesh_model.proofs.Cases.{ask_goes, by_cases, send_goes, turn_goes}
@@ -14,21 +14,21 @@ use Rattle.mesh_model.proofs.Lists.{each_append, each_map, set_other, set_same}
 use Rattle.mesh_model.proofs.MeshSteps.{both_more, each_receiver, has_fewer, has_more, range_has}
 use Rattle.mesh_model.proofs.Steps.{fit, found_honest, without_honest}
 use Rattle.mesh_model.proofs.TrailTables.{Later}
-use Rattle.mesh_model.proofs.TrailTurns.{IsHere, Traces}
-use Rattle.mesh_model.proofs.Turns.{IsOk}
+use Rattle.mesh_model.proofs.TrailTurns.{HeardHolds, heard_holds}
+use Rattle.mesh_model.proofs.Turns.{IsOk, ask_ok, send_ok, turn_ok}
 use Rattle.mesh_model.specs.Invariants.{IsInvariant, IsLoopSafeNode}
 use Rattle.mesh_model.specs.InMesh.{AreNumbered}
-use Rattle.mesh_model.specs.Trails.{Around, HasWalks, around, seen_in}
+use Rattle.mesh_model.specs.Trails.{Around, around, seen_in}
 use Rattle.mesh_model.specs.Walks.{rt_in, table}
 use Rattle.mesh_model.specs.Worlds.{Ask, Copy, Event, Node, Outcome, Send, Turn, World, after, are_linked, copies, copies_of, copies_to, done_by, double_of, find_copy, members_below, pair, push, range, receivers, step, with_double, with_item, with_link, without_copy, without_link}
-use Rattle.mesh_trail.proofs.CastWalks.{CastHolds, IsSentBy, ask_holds, message_tells, new_holds, send_holds}
-use Rattle.mesh_trail.proofs.Listed.{entries_hold, has_walks, stays_hold}
-use Rattle.mesh_trail.proofs.Stays.{copy_stays, entries_stay, items_more, items_stay, message_stays, node_stays}
-use Rattle.mesh_trail.proofs.Stems.{itself, message_stems, new_stays, parcel_stays, send_stays}
-use Rattle.mesh_trail.specs.Held.{CopyHolds, EntriesHold, Holds, ItemHolds, ItemsHold, MessageHolds, NodeHolds}
-use Rattle.mesh_trail.specs.Kept as kept
-use Rattle.mesh_trail.specs.Kept.{KeptLists, after_item, after_turn, changed_at, entries_after, first_list, from_id_on, own_list, sent_list, lists_after, walked_by, with_copies}
-use Rattle.mesh_model.proofs.TrailSteps.{IsTraced, ask_traced, here_of, later_of, later_same, own_keys, send_traced, trail_of, turn_traced}
+use Rattle.mesh_model.proofs.CastWalks.{CastHolds, ask_holds, new_holds, send_holds}
+use Rattle.mesh_model.proofs.Listed.{stays_hold}
+use Rattle.mesh_model.proofs.Stays.{copy_stays, entries_stay, items_more, items_stay, message_stays, node_stays}
+use Rattle.mesh_model.proofs.Stems.{StaysSeen, ask_seen, ask_stays, itself, new_stays, send_seen, send_stays, turn_seen}
+use Rattle.mesh_model.specs.Held.{CopyHolds, EntriesHold, Holds, ItemHolds, ItemsHold, MessageHolds, NodeHolds}
+use Rattle.mesh_model.specs.Kept as kept
+use Rattle.mesh_model.specs.Kept.{KeptLists, after_item, after_turn, changed_at, entries_after, first_list, from_id_on, own_list, sent_list, lists_after, walked_by, with_copies}
+use Rattle.mesh_model.proofs.TrailSteps.{here_of, later_of, later_same, sent_holds}
 
 -- ---- the list of each id
 
@@ -76,19 +76,7 @@ flying_stays v w b old now later numbered same all =
     both (λ (c : Copy). c.id < w.next_copy) (CopyHolds (around v w) old) (CopyHolds b now) (λ c below t. copy_stays (around v w) b later old now c (same c.id below) t) w.flying
     (numbered_below 1 w.flying w.next_copy numbered) all
 
--- ---- what a core sends
-
-sent_holds : (a b : Around) (core : Core) (x : ℕ) (m : Message) (walk : List ℕ) → Later a b → core.ip ≡ x → b.tables x ≡ core.rt → b.seen x ≡ core.seen → IsSentBy a core m walk → MessageHolds b x m walk
-sent_holds a b core x (Pkt y d o) walk later ip rt seen s = tt
-sent_holds a b core x (Rreq m) walk later ip rt seen s = record {
-  others = s.others;
-  is = s.is ∙ ap (λ k. k ∷ s.others) ip;
-  backed = trail_of a b core x m.oip m.osn s.others later ip rt s.begins;
-  long = s.long;
-  keys = own_keys a b core x m s.others later seen s.own s.keys;
-}
-sent_holds a b core x (Rrep m) walk later ip rt seen s = record { others = s.others; is = s.is ∙ ap (λ k. k ∷ s.others) ip; backed = trail_of a b core x m.dip m.dsn s.others later ip rt s.begins; long = s.long }
-sent_holds a b core x (Rerr dests) walk later ip rt seen s = tt
+-- ---- the copies of a cast
 
 copies_to_hold : (b : Around) (flying : ℕ → List ℕ) (walk : List ℕ) (tos : List ℕ) (id x : ℕ) (m : Message) → ((q : ℕ) → id ≤ q → flying q ≡ walk) → AllByRecursion (λ y. are_linked b.ever x y ≡ true) tos → MessageHolds b x m walk → AllByRecursion (CopyHolds b flying) (copies_to tos id x m)
 copies_to_hold b flying walk [] id x m same all t = tt
@@ -142,31 +130,29 @@ node_holds v w w' x old new k k' holds is nodes links ever later same mine flyin
         (subst (λ ls. NodeHolds (around v w') y n (k.entries y) ls) (sym (same.queues y p.0))
         (node_stays (around v w) (around v w') later y n (k.entries y) (k.queues y) (holds.nodes y n p.1)))
 
-done_holds : (v : Variant) (w : World) (x : ℕ) (n : Node) (did : Reaction) (queue : List Item) (list : Message → List ℕ) (k k' : KeptLists) → IsInvariant w → Holds v w k → slice_get w.nodes x ≡ Some n → IsTraced v w n.core did → SameElsewhere x k k'
+done_holds : (v : Variant) (w : World) (x : ℕ) (n : Node) (did : Reaction) (queue : List Item) (list : Message → List ℕ) (k k' : KeptLists) → IsInvariant w → Holds v w k → slice_get w.nodes x ≡ Some n → IsOk (table w) n.core did → StaysSeen n.core did.core → SameElsewhere x k k'
     → EntriesHold (around v w) x (did.core).rt (k'.entries x) → ItemsHold (around v w) x queue (k'.queues x) → CastHolds (around v w) did.core list (did.effect).cast → k'.flying ≡ with_copies k.flying list (copies w x (did.effect).cast)
     → Holds v (done_by w x did queue) k'
 unfolding done_by
-done_holds v w x n did queue list k k' inv holds is traced same entries items cast flying =
-    let ok : IsOk (table w) n.core did = traced.ok in
-    let traces : Traces (around v w) n.core did = traced.traces in
+done_holds v w x n did queue list k k' inv holds is ok seen same entries items cast flying =
     let new : Node = record { core = did.core; queue = queue } in
     let w' : World = done_by w x did queue in
     let named : (n.core).ip ≡ x = inv.loop_safe.named x n is in
     let t : NodeHolds (around v w) x n (k.entries x) (k.queues x) = holds.nodes x n is in
-    let later : Later (around v w) (around v w') = later_of v w w' x n new is refl refl ok.leads.grows traces.seen in
+    let later : Later (around v w) (around v w') = later_of v w w' x n new is refl refl ok.leads.grows seen.1 in
     let mine : table w' x ≡ (did.core).rt = ap rt_in (set_same w.nodes x new n is) in
     let known : seen_in (slice_get (set w.nodes x new) x) ≡ (did.core).seen = ap seen_in (set_same w.nodes x new n is) in
     let walks : ℕ → List ℕ = with_copies k.flying list (copies w x (did.effect).cast) in
     node_holds v w w' x n new k k' holds is refl refl refl later same
     (record {
-      variant = traces.variant ∙ t.variant;
+      variant = seen.0 ∙ t.variant;
       entries = entries_stay (around v w) (around v w') later x (did.core).rt (k'.entries x) entries;
       queue = items_stay (around v w) (around v w') later x queue (k'.queues x) items;
     })
     (subst (λ f. AllByRecursion (CopyHolds (around v w') f) w'.flying) (sym flying)
     (each_append (CopyHolds (around v w') walks) w.flying _
     (flying_stays v w (around v w') k.flying walks later inv.in_mesh.numbered (copies_before w k.flying list x (did.effect).cast) holds.flying)
-    (copies_hold (around v w) (around v w') did.core w k.flying list x (did.effect).cast later (traces.named ∙ named) mine known (λ y e. holds.stood _ (range_has w x y e).1) cast)))
+    (copies_hold (around v w) (around v w') did.core w k.flying list x (did.effect).cast later (ok.named ∙ named) mine known (λ y e. holds.stood _ (range_has w x y e).1) cast)))
 
 -- ---- changes of a function at one place
 
@@ -192,6 +178,12 @@ abbrev ItemKeeps : Variant → World → Core → Item → List Item → KeptLis
 ItemKeeps v w core item items k =
     let did = turn core (range w core.ip) item in Holds v (done_by w core.ip did items) (after_item core.ip (did.core).rt item (copies w core.ip (did.effect).cast) k)
 
+front_ok : (w : World) (core : Core) (item : Item) (items : List Item) → IsInvariant w → slice_get w.nodes core.ip ≡ Some (record { core = core; queue = item ∷ items }) → IsOk (table w) core (turn core (range w core.ip) item)
+front_ok w core item items inv is =
+    let n : Node = record { core = core; queue = item ∷ items } in
+    let good : IsLoopSafeNode (table w) n = inv.loop_safe.nodes core.ip n is in
+    turn_ok (table w) core (range w core.ip) item (fit (table w) n good) good.queue.0
+
 new_keeps : (v : Variant) (w : World) (core : Core) (b : Body) (d : ℕ) (items : List Item) (k : KeptLists) → IsInvariant w → Holds v w k → slice_get w.nodes core.ip ≡ Some (record { core = core; queue = New b d ∷ items }) → ItemKeeps v w core (New b d) items k
 new_keeps v w core b d items k inv holds is =
     let x = core.ip in
@@ -200,11 +192,10 @@ new_keeps v w core b d items k inv holds is =
     let did : Reaction = turn core (range w x) item in
     let p : NodeHolds (around v w) x n (k.entries x) (k.queues x) = holds.nodes x n is in
     let both = first_holds (around v w) x item items (k.queues x) p.queue in
-    let traced : IsTraced v w core did = turn_traced v w x core item items inv.loop_safe (has_walks v w k holds) is in
     let k' : KeptLists = after_item x (did.core).rt item (copies w x (did.effect).cast) k in
-    done_holds v w x n did items (own_list x) k k' inv holds is traced
+    done_holds v w x n did items (own_list x) k k' inv holds is (front_ok w core item items inv is) (turn_seen core (range w x) item)
     (record { entries = λ y apart. refl; queues = λ y apart. elsewhere k.queues x (drop 1 (k.queues x)) y apart })
-    (stays_hold (around v w) x core.rt (did.core).rt (k.entries x) (new_stays core b d) p.entries)
+    (stays_hold (around v w) x core.rt (did.core).rt (k.entries x) (new_stays core b d).0 p.entries)
     (subst (ItemsHold (around v w) x items) (sym (here_changed k.queues x (drop 1 (k.queues x)))) both.1)
     (new_holds (around v w) (own_list x) core b d) refl
 
@@ -217,20 +208,16 @@ heard_keeps v w core y m items k inv holds is =
     let did : Reaction = turn core (range w x) item in
     let p : NodeHolds a x n (k.entries x) (k.queues x) = holds.nodes x n is in
     let both = first_holds a x item items (k.queues x) p.queue in
-    let traced : IsTraced v w core did = turn_traced v w x core item items inv.loop_safe (has_walks v w k holds) is in
     let l : List ℕ = first_list (k.queues x) in
     let walks : ℕ → List ℕ = entries_after x y m l (did.core).rt (k.entries x) in
     let k' : KeptLists = after_item x (did.core).rt item (copies w x (did.effect).cast) k in
     let good : IsLoopSafeNode (table w) n = inv.loop_safe.nodes x n is in
-    let here : IsHere a core = here_of v w x n inv.loop_safe (has_walks v w k holds) is in
-    let all : EntriesHold a x (did.core).rt walks =
-    entries_hold a x y (table w y) m l core.rt (did.core).rt (k.entries x) (parcel_stays core (range w x) y m) (message_stems core (range w x) y m) p.entries
-    (λ d j g one at. traced.ok.leads.grows.keeps d j g one (here.tables d j g one at)) good.queue.0 both.0.0 both.0.1 in
-    done_holds v w x n did items (sent_list x walks m l) k k' inv holds is traced
+    let h : HeardHolds a core y m l (k.entries x) did = heard_holds (table w) a core (range w x) y m l (k.entries x) (fit (table w) n good) (here_of v w x n inv.loop_safe p.variant is) good.queue.0 both.0.0 both.0.1 p.entries in
+    done_holds v w x n did items (sent_list x walks m l) k k' inv holds is (front_ok w core item items inv is) (turn_seen core (range w x) item)
     (record { entries = λ y apart. elsewhere k.entries x walks y apart; queues = λ y apart. elsewhere k.queues x (drop 1 (k.queues x)) y apart })
-    (subst (EntriesHold a x (did.core).rt) (sym (here_changed k.entries x walks)) all)
+    (subst (EntriesHold a x (did.core).rt) (sym (here_changed k.entries x walks)) h.entries)
     (subst (ItemsHold a x items) (sym (here_changed k.queues x (drop 1 (k.queues x)))) both.1)
-    (message_tells (table w) a y m l (k.entries x) core (range w x) (fit (table w) n good) here good.queue.0 both.0.0 both.0.1 all) refl
+    h.cast refl
 
 item_keeps : (v : Variant) (w : World) (core : Core) (item : Item) (items : List Item) (k : KeptLists) → IsInvariant w → Holds v w k → slice_get w.nodes core.ip ≡ Some (record { core = core; queue = item ∷ items }) → ItemKeeps v w core item items k
 item_keeps v w core (New b d) items k inv holds is = new_keeps v w core b d items k inv holds is
@@ -252,33 +239,29 @@ turn_at v w core item items k inv holds is =
 
 -- ---- of a node's own accord
 
-own_keeps : (v : Variant) (w : World) (n : Node) (did : Reaction) (k : KeptLists) → IsInvariant w → Holds v w k → slice_get w.nodes (n.core).ip ≡ Some n → IsTraced v w n.core did
+own_keeps : (v : Variant) (w : World) (n : Node) (did : Reaction) (k : KeptLists) → IsInvariant w → Holds v w k → slice_get w.nodes (n.core).ip ≡ Some n → IsOk (table w) n.core did → StaysSeen n.core did.core
     → EntriesHold (around v w) (n.core).ip (did.core).rt (k.entries (n.core).ip) → CastHolds (around v w) did.core (own_list (n.core).ip) (did.effect).cast
     → Holds v (done_by w (n.core).ip did n.queue) (record k { flying = with_copies k.flying (own_list (n.core).ip) (copies w (n.core).ip (did.effect).cast) })
-own_keeps v w n did k inv holds is traced entries cast =
+own_keeps v w n did k inv holds is ok seen entries cast =
     let x = (n.core).ip in
-    done_holds v w x n did n.queue (own_list x) k (record k { flying = with_copies k.flying (own_list x) (copies w x (did.effect).cast) }) inv holds is traced
+    done_holds v w x n did n.queue (own_list x) k (record k { flying = with_copies k.flying (own_list x) (copies w x (did.effect).cast) }) inv holds is ok seen
     (record { entries = λ y apart. refl; queues = λ y apart. refl }) entries (holds.nodes x n is).queue cast refl
 
 send_at : (v : Variant) (w : World) (n : Node) (d : ℕ) (k : KeptLists) → IsInvariant w → Holds v w k → slice_get w.nodes (n.core).ip ≡ Some n → Keeps v w (Send (n.core).ip d) k (send_goes w (n.core).ip d n)
 send_at v w n d k inv holds is =
     let x = (n.core).ip in
     let did : Reaction = send n.core (range w x) d in
-    own_keeps v w n did k inv holds is (send_traced v w x d n inv.loop_safe (has_walks v w k holds) is)
-    (stays_hold (around v w) x (n.core).rt (did.core).rt (k.entries x) (send_stays n.core (range w x) d) (holds.nodes x n is).entries)
+    own_keeps v w n did k inv holds is (send_ok (table w) n.core (range w x) d (fit (table w) n (inv.loop_safe.nodes x n is))) (send_seen n.core (range w x) d)
+    (stays_hold (around v w) x (n.core).rt (did.core).rt (k.entries x) (send_stays n.core (range w x) d).0 (holds.nodes x n is).entries)
     (send_holds (around v w) (own_list x) n.core (range w x) d)
-
-asked_entries : (a : Around) (x : ℕ) (core : Core) (d : ℕ) (walks : ℕ → List ℕ) → EntriesHold a x core.rt walks → EntriesHold a x ((ask core d).core).rt walks
-unfolding ask
-asked_entries a x core d walks all = all
 
 ask_at : (v : Variant) (w : World) (n : Node) (d : ℕ) (k : KeptLists) → IsInvariant w → Holds v w k → slice_get w.nodes (n.core).ip ≡ Some n → Keeps v w (Ask (n.core).ip d) k (ask_goes w (n.core).ip d n)
 ask_at v w n d k inv holds is =
     let x = (n.core).ip in
-    let trails : HasWalks v w = has_walks v w k holds in
-    own_keeps v w n (ask n.core d) k inv holds is (ask_traced v w x d n inv.loop_safe trails is)
-    (asked_entries (around v w) x n.core d (k.entries x) (holds.nodes x n is).entries)
-    (ask_holds (around v w) n.core d (here_of v w x n inv.loop_safe trails is))
+    let p : NodeHolds (around v w) x n (k.entries x) (k.queues x) = holds.nodes x n is in
+    own_keeps v w n (ask n.core d) k inv holds is (ask_ok (table w) n.core d (fit (table w) n (inv.loop_safe.nodes x n is))) (ask_seen n.core d)
+    (stays_hold (around v w) x (n.core).rt (ask n.core d).core.rt (k.entries x) (ask_stays n.core d) p.entries)
+    (ask_holds (around v w) n.core d (here_of v w x n inv.loop_safe p.variant is))
 
 -- ---- what leaves tables alone
 

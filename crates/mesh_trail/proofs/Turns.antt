@@ -14,8 +14,8 @@ use Rattle.mesh_meaning.specs.Answers.{world_effect_in, outcome_in}
 use Rattle.mesh_world.proofs.Frames.{each_set}
 use Rattle.mesh_world.specs.Seen.{WorldSeen}
 use Rattle.mesh_world.specs.Steps.{IsDone}
-use Rattle.mesh_trail.specs.Kept as walks
-use Rattle.mesh_trail.specs.Kept.{KeptLists, after_front, after_turn, changed_at, copies_in, entries_after, first_list, own_list, lists_after, walked_by, with_copies}
+use Rattle.mesh_model.specs.Kept as walks
+use Rattle.mesh_model.specs.Kept.{KeptLists, after_front, after_turn, changed_at, copies_in, entries_after, first_list, own_list, lists_after, walked_by, with_copies}
 use Rattle.mesh_trail.specs.declared.said.Said.{Said}
 use Rattle.mesh_trail.specs.declared.said.Said.TheVariants as says
 use Rattle.mesh_trail.specs.declared.heard.Front.{Front}

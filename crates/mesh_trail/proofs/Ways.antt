@@ -10,7 +10,7 @@ use Rattle.mesh_model.specs.InMesh.{AreNumbered}
 use Rattle.mesh_model.proofs.Lists.{each_append, each_filter}
 use Rattle.mesh_model.specs.Worlds.{is_parcel, Copy, CopyDoubled, Cut, Deliver, Double, Event, Give, Full, Next, Idle, Link, Lose, Outcome, World, after, copies, copies_of, copies_to, done_by, double_of, find_copy, members_below, push, range, receivers, run, step, with_double, without, without_copy}
 use Rattle.mesh_trail.proofs.Steps.{numbered_low}
-use Rattle.mesh_trail.specs.Kept.{KeptLists, after_doubling, copies_in, from_id_on}
+use Rattle.mesh_model.specs.Kept.{KeptLists, after_doubling, copies_in, from_id_on}
 
 -- ---- the ids of copies
 

@@ -8,8 +8,8 @@ use Rattle.mesh_model.specs.Worlds.{World, Event, step, after, start}
 use Rattle.mesh_model.specs.Walks.{table}
 use Rattle.mesh_model.specs.Invariants.{IsInvariant}
 use Rattle.mesh_model.specs.Trails.{IsHonestWalk}
-use Rattle.mesh_trail.specs.Kept.{KeptLists, nothing_kept, lists_after}
-use Rattle.mesh_trail.specs.Held.{Holds}
+use Rattle.mesh_model.specs.Kept.{KeptLists, nothing_kept, lists_after}
+use Rattle.mesh_model.specs.Held.{Holds}
 
 -- in the opening world there is nothing for which a walk is to be kept
 abbrev pub StartHolds : Type 0

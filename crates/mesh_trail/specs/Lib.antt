@@ -1,8 +1,5 @@
--- What a trail answers, and the lists that it keeps. Read in this order.
--- Kept: the lists that are kept of a world, and what each event does to them.
-pub mod Kept
--- Held: that these lists are walks of its entries, requests and replies.
-pub mod Held
+-- What a trail answers, and the lists that it keeps. Read in this order, after mesh_model's `Kept`
+-- and `Held`, which define those lists.
 -- Laws: the statements that this crate proves of them.
 pub mod Laws
 -- Walks: what a trail answers. No public contract cites the files after it.

@@ -3,8 +3,8 @@ use Rattle.std.specs.Prelude.{◌≡◌, ℕ, Option, Some, None, List, [], leng
 use Rattle.std.specs.List.{AllByRecursion}
 use Rattle.mesh_base.specs.declared.events.Variant.{Variant}
 use Rattle.mesh_model.specs.Worlds.{World, Event, AreFirstNumbers, start, run}
-use Rattle.mesh_trail.specs.Kept.{KeptLists}
-use Rattle.mesh_trail.specs.Held.{Holds}
+use Rattle.mesh_model.specs.Kept.{KeptLists}
+use Rattle.mesh_model.specs.Held.{Holds}
 use Rattle.mesh_world.specs.Seen.{WorldSeen, IsSoundWorld}
 use Rattle.mesh_trail.specs.Lists.{row}
 use Rattle.mesh_trail.specs.Casts.{IsCovered, AreEnding, list_of}

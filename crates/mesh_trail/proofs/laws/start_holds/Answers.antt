@@ -1,4 +1,4 @@
-use Rattle.mesh_trail.proofs.Turned as lemmas
+use Rattle.mesh_model.proofs.Honest as lemmas
 use Rattle.mesh_trail.proofs.laws.start_holds.Goals as goal
 
 pub returns : goal.returns

@@ -1,12 +1,19 @@
 -- What holds of lists in a world holds of them in a later one.
-use Rattle.std.proofs.Common.{◌≡◌, ℕ, List, [], ◌∷◌, ◌++◌, sym, ◌∙◌, subst}
-use Rattle.aodv_model.specs.Cores.{Heard, Item, Message, New, Pkt, Rerr, Rrep, Rreq}
+use Rattle.std.proofs.Common.{◌≡◌, ℕ, true, List, [], ◌∷◌, ◌++◌, sym, ◌∙◌, subst}
+use Rattle.std.specs.List.{AllByRecursion}
+use Rattle.aodv_model.specs.Cores.{Heard, Item, Message, New, Pkt, Rerr, RouteRequest, Rrep, Rreq, has_seen}
+use Rattle.aodv_model.specs.Handlers.{key_of}
 use Rattle.aodv_model.specs.Tables.{Table}
-use Rattle.mesh_model.proofs.TrailSteps.{keys_stay}
+use Rattle.mesh_model.proofs.Lists.{each_map}
 use Rattle.mesh_model.proofs.TrailTables.{Later, trail_stays}
 use Rattle.mesh_model.specs.Trails.{Around}
 use Rattle.mesh_model.specs.Worlds.{Copy, Node}
-use Rattle.mesh_trail.specs.Held.{CopyHolds, EntriesHold, IsEntryWalk, ItemHolds, ItemsHold, MessageHolds, NodeHolds}
+use Rattle.mesh_model.specs.Held.{CopyHolds, EntriesHold, IsEntryWalk, ItemHolds, ItemsHold, MessageHolds, NodeHolds}
+
+-- the nodes that have seen a request have still seen it
+pub keys_stay : (a b : Around) → Later a b → (m : RouteRequest) (xs : List ℕ) → AllByRecursion (λ z. has_seen (a.seen z) (key_of a.variant m) ≡ true) xs → AllByRecursion (λ z. has_seen (b.seen z) (key_of b.variant m) ≡ true) xs
+keys_stay a b later m xs keys = each_map (λ z. has_seen (a.seen z) (key_of a.variant m) ≡ true) (λ z. has_seen (b.seen z) (key_of b.variant m) ≡ true)
+    (λ z e. subst (λ v. has_seen (b.seen z) (key_of v m) ≡ true) (sym later.variant) (later.seen z _ e)) xs keys
 
 held_stays : (a b : Around) → Later a b → (x d n h y : ℕ) (walk : List ℕ) → IsEntryWalk a x d n h y walk → IsEntryWalk b x d n h y walk
 held_stays a b later x d n h y walk t = record { others = t.others; is = t.is; backed = trail_stays a b later d n (y ∷ t.others) t.backed; long = t.long; linked = later.ever _ t.linked; absent = t.absent }

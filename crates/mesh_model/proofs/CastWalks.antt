@@ -1,4 +1,4 @@
--- What a turn, a send or a request casts has the walk that is stated for it.
+-- What a turn, a send or a request casts has the walk that `sent_list` and `own_list` state for it.
 use Rattle.std.proofs.Common.{◌≡◌, ◌≢◌, ◌⊎◌, ℕ, ◌+◌, ◌≤◌, Bool, true, false, ◌||◌, not, ◌==◌, List, [], ◌∷◌, length, Some, None, Option, refl, ap, sym, ◌∙◌, subst, arith, inl, inr}
 use Rattle.std.specs.Prelude.{⊤, if◌then◌else◌, max, is_some}
 use Rattle.std.specs.List.{AllByRecursion}
@@ -26,13 +26,59 @@ use Rattle.mesh_base.specs.declared.events.Variant.TheVariants.{Base, Error, Num
 use Rattle.mesh_model.proofs.Leads.{IsFine, Leads}
 use Rattle.mesh_model.proofs.Lists.{each_map}
 use Rattle.mesh_model.proofs.TrailTables.{stale_there}
-use Rattle.mesh_model.proofs.TrailTurns.{Begins, IsHere, front_absent, unseen, has_new, same_key, own_key}
 use Rattle.mesh_model.proofs.Turns.{IsFit, after_reply_leads, after_reply_reaches, after_request_leads, after_request_reaches, at_least_number, join_answer_leads, join_reply_leads, own_at_least}
 use Rattle.mesh_model.specs.Invariants.{AtLeast, IsAtLeast, IsHonest}
-use Rattle.mesh_model.specs.Trails.{Around, IsAbsent, front}
+use Rattle.mesh_model.specs.Trails.{Around, IsAbsent, IsBackedWalk, front}
 use Rattle.mesh_model.specs.Worlds.{are_linked}
-use Rattle.mesh_trail.specs.Held.{EntriesHold, IsEntryWalk, IsRequestWalk, MessageHolds}
-use Rattle.mesh_trail.specs.Kept.{entries_after, own_list, sent_list}
+use Rattle.mesh_model.specs.Held.{EntriesHold, IsEntryWalk, IsRequestWalk, MessageHolds}
+use Rattle.mesh_model.specs.Kept.{entries_after, own_list, sent_list}
+
+-- ---- what a node knows of a walk
+
+-- the rest of a walk to d that begins at the core
+abbrev pub Begins : Around → Core → ℕ → ℕ → List ℕ → Type 0
+Begins a core d n [] = core.ip ≡ d
+Begins a core d n (y ∷ ys) = (are_linked a.ever y core.ip ≡ true) × (1 ≤ n) × AtLeast core.rt d n (length (y ∷ ys)) × IsAbsent core.ip (front (y ∷ ys)) × IsBackedWalk a d n (y ∷ ys)
+
+-- the core is the one that is around, or has more
+pub record IsHere (a : Around) (core : Core) : Type 0 where
+  pub variant : core.variant ≡ a.variant
+  pub tables : (d n h : ℕ) → 1 ≤ n → AtLeast (a.tables core.ip) d n h → AtLeast core.rt d n h
+  pub seen : (key : ℕ × ℕ) → has_seen (a.seen core.ip) key ≡ true → has_seen core.seen key ≡ true
+
+front_absent : (x : ℕ) (zs : List ℕ) → IsAbsent x zs → IsAbsent x (front zs)
+front_absent x [] all = tt
+front_absent x (z ∷ []) all = tt
+front_absent x (z ∷ (y ∷ ys)) all = (all.0, front_absent x (y ∷ ys) all.1)
+
+-- a node that hasn't seen the request isn't on its walk
+unseen : (a : Around) (core : Core) (key : ℕ × ℕ) (zs : List ℕ) → IsHere a core → has_seen core.seen key ≡ false → AllByRecursion (λ z. has_seen (a.seen z) key ≡ true) zs → IsAbsent core.ip zs
+unseen a core key zs here new keys = each_map (λ z. has_seen (a.seen z) key ≡ true) (λ z. core.ip ≢ z) (λ z has e. wrong (sym (here.seen key (ap (λ k. has_seen (a.seen k) key) e ∙ has)) ∙ new)) zs keys
+  where
+    wrong : true ≡ false → ⊥
+    wrong e = cc
+
+has_new : (seen : Pairs) (key : ℕ × ℕ) → sets.contains (sets.insert seen key) key ≡ true
+has_new seen key = sets.contains-insert pair_cmp_total seen key key ∙ itself
+  where
+    itself : (eq_by_cmp pair_cmp key key || sets.contains seen key) ≡ true
+    itself = ap (λ b. b || sets.contains seen key) (ap is_eq (tied_itself pair_cmp_total key))
+
+-- the same request, as it is passed on
+same_key : (variant : Variant) (m : RouteRequest) (hops dsn : ℕ) → key_of variant (record m { hops = hops; dsn = dsn }) ≡ key_of variant m
+same_key Base m hops dsn = refl
+same_key Number m hops dsn = refl
+same_key Reply m hops dsn = refl
+same_key Error m hops dsn = refl
+
+-- the key of a request of one's own
+own_key : (variant : Variant) (core : Core) (m : RouteRequest) → m.oip ≡ core.ip → m.id ≡ fresh_id variant core → m.osn ≡ fresh_id Number core → key_of variant m ≡ (core.ip, fresh_id variant core)
+own_key Base core m o i s = λ k. (o k, i k)
+own_key Number core m o i s = λ k. (o k, s k)
+own_key Reply core m o i s = λ k. (o k, i k)
+own_key Error core m o i s = λ k. (o k, i k)
+
+-- ---- what a node sends
 
 -- the list is the walk of what the core sends of d
 pub record SentBy (a : Around) (core : Core) (d n h : ℕ) (walk : List ℕ) : Type 0 where
@@ -61,18 +107,43 @@ CastHolds a core list (One y m) = IsSentBy a core m (list m)
 CastHolds a core list (Many s m) = IsSentBy a core m (list m)
 CastHolds a core list (All m) = IsSentBy a core m (list m)
 
--- ---- breaks
+-- ---- what has no walk
 
-error_holds : (a : Around) (core : Core) (list : Message → List ℕ) (variant : Variant) (rt : Table) (dests : Dests) → CastHolds a core list (error_cast variant rt dests)
+-- nothing is said of the walk of a data packet or a route error
+abbrev IsPlain : Message → Type 0
+IsPlain (Pkt b d o) = ⊤
+IsPlain (Rreq m) = ⊥
+IsPlain (Rrep m) = ⊥
+IsPlain (Rerr dests) = ⊤
+
+plain_sent : (a : Around) (core : Core) (m : Message) (walk : List ℕ) → IsPlain m → IsSentBy a core m walk
+plain_sent a core (Pkt b d o) walk is = tt
+plain_sent a core (Rreq m) walk is = absurd is
+plain_sent a core (Rrep m) walk is = absurd is
+plain_sent a core (Rerr dests) walk is = tt
+
+abbrev IsPlainCast : Cast → Type 0
+IsPlainCast Nothing = ⊤
+IsPlainCast (One y m) = IsPlain m
+IsPlainCast (Many s m) = IsPlain m
+IsPlainCast (All m) = IsPlain m
+
+plain_holds : (a : Around) (core : Core) (list : Message → List ℕ) (c : Cast) → IsPlainCast c → CastHolds a core list c
+plain_holds a core list Nothing is = tt
+plain_holds a core list (One y m) is = plain_sent a core m (list m) is
+plain_holds a core list (Many s m) is = plain_sent a core m (list m) is
+plain_holds a core list (All m) is = plain_sent a core m (list m) is
+
+error_plain : (variant : Variant) (rt : Table) (dests : Dests) → IsPlainCast (error_cast variant rt dests)
 unfolding error_cast
-error_holds a core list variant rt dests =
-    if_case (CastHolds a core list) (is_error variant) (if maps.len dests == 0 then Nothing else All (Rerr dests)) (if is_empty (precs_of rt dests) then Nothing else Many (precs_of rt dests) (Rerr (with_precs rt dests)))
-    (λ _. if_case (CastHolds a core list) (maps.len dests == 0) Nothing (All (Rerr dests)) (λ _. tt) (λ _. tt))
-    (λ _. if_case (CastHolds a core list) (is_empty (precs_of rt dests)) Nothing (Many (precs_of rt dests) (Rerr (with_precs rt dests))) (λ _. tt) (λ _. tt))
+error_plain variant rt dests =
+    if_case IsPlainCast (is_error variant) (if maps.len dests == 0 then Nothing else All (Rerr dests)) (if is_empty (precs_of rt dests) then Nothing else Many (precs_of rt dests) (Rerr (with_precs rt dests)))
+    (λ _. if_case IsPlainCast (maps.len dests == 0) Nothing (All (Rerr dests)) (λ _. tt) (λ _. tt))
+    (λ _. if_case IsPlainCast (is_empty (precs_of rt dests)) Nothing (Many (precs_of rt dests) (Rerr (with_precs rt dests))) (λ _. tt) (λ _. tt))
 
 retract_holds : (a : Around) (list : Message → List ℕ) (core : Core) (dests : Dests) → CastHolds a (retract core dests).core list ((retract core dests).effect).cast
 unfolding retract
-retract_holds a list core dests = error_holds a _ list core.variant core.rt dests
+retract_holds a list core dests = plain_holds a _ list (error_cast core.variant core.rt dests) (error_plain core.variant core.rt dests)
 
 broken_holds : (a : Around) (list : Message → List ℕ) (core : Core) (y : ℕ) → CastHolds a (broken_by y (link_broken core y)).core list ((broken_by y (link_broken core y)).effect).cast
 unfolding link_broken
@@ -262,38 +333,6 @@ new_holds a list core b d =
     (λ _. tt) (λ _. tt)
 
 -- ---- of a node's own accord
-
--- nothing is said of the walk of a data packet or a route error
-abbrev IsPlain : Message → Type 0
-IsPlain (Pkt b d o) = ⊤
-IsPlain (Rreq m) = ⊥
-IsPlain (Rrep m) = ⊥
-IsPlain (Rerr dests) = ⊤
-
-plain_sent : (a : Around) (core : Core) (m : Message) (walk : List ℕ) → IsPlain m → IsSentBy a core m walk
-plain_sent a core (Pkt b d o) walk is = tt
-plain_sent a core (Rreq m) walk is = absurd is
-plain_sent a core (Rrep m) walk is = absurd is
-plain_sent a core (Rerr dests) walk is = tt
-
-abbrev IsPlainCast : Cast → Type 0
-IsPlainCast Nothing = ⊤
-IsPlainCast (One y m) = IsPlain m
-IsPlainCast (Many s m) = IsPlain m
-IsPlainCast (All m) = IsPlain m
-
-plain_holds : (a : Around) (core : Core) (list : Message → List ℕ) (c : Cast) → IsPlainCast c → CastHolds a core list c
-plain_holds a core list Nothing is = tt
-plain_holds a core list (One y m) is = plain_sent a core m (list m) is
-plain_holds a core list (Many s m) is = plain_sent a core m (list m) is
-plain_holds a core list (All m) is = plain_sent a core m (list m) is
-
-error_plain : (variant : Variant) (rt : Table) (dests : Dests) → IsPlainCast (error_cast variant rt dests)
-unfolding error_cast
-error_plain variant rt dests =
-    if_case IsPlainCast (is_error variant) (if maps.len dests == 0 then Nothing else All (Rerr dests)) (if is_empty (precs_of rt dests) then Nothing else Many (precs_of rt dests) (Rerr (with_precs rt dests)))
-    (λ _. if_case IsPlainCast (maps.len dests == 0) Nothing (All (Rerr dests)) (λ _. tt) (λ _. tt))
-    (λ _. if_case IsPlainCast (is_empty (precs_of rt dests)) Nothing (Many (precs_of rt dests) (Rerr (with_precs rt dests))) (λ _. tt) (λ _. tt))
 
 abbrev IsPlainDone : Reaction → Type 0
 IsPlainDone did = IsPlainCast (did.effect).cast

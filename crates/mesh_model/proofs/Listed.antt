@@ -1,24 +1,26 @@
--- The lists of a node's entries are walks after a turn.
-use Rattle.std.proofs.Common.{◌≡◌, ◌⊎◌, ℕ, ◌+◌, ◌<◌, ◌≤◌, true, false, List, [], ◌∷◌, length, Some, refl, ap, sym, ◌∙◌, subst, arith, inl, inr}
+-- Where lists are walks there are walks, and walks can be listed. The lists of a node's entries are
+-- walks after a turn.
+use Rattle.std.proofs.Common.{◌≡◌, ◌⊎◌, ℕ, ◌+◌, ◌<◌, ◌≤◌, true, false, List, [], ◌∷◌, length, Some, None, Option, refl, ap, sym, ◌∙◌, subst, arith, inl, inr}
 use Rattle.std.specs.Prelude.{if◌then◌else◌}
 use Rattle.std.specs.List.{AllByRecursion}
 use Rattle.std.proofs.lemmas.Bool.Decides.{nat_tests}
-use Rattle.std.proofs.lemmas.Option.{same_Some}
+use Rattle.std.proofs.lemmas.Option.{none-some, same_Some}
 use Rattle.std.specs.FinMap as maps
 use Rattle.mesh_base.specs.declared.events.Variant.{Variant}
 use Rattle.aodv_model.specs.declared.entry.Entry.{Entry}
-use Rattle.aodv_model.specs.declared.entry.Flag.TheVariants.{Val}
+use Rattle.aodv_model.specs.declared.entry.Flag.{Flag}
+use Rattle.aodv_model.specs.declared.entry.Flag.TheVariants.{Inv, Val}
 use Rattle.aodv_model.proofs.Entries.{Same, if_case}
 use Rattle.aodv_model.specs.Cores.{Heard, Item, Message, New, Pkt, Rerr, Rrep, Rreq}
 use Rattle.aodv_model.specs.Tables.{Table}
 use Rattle.mesh_model.proofs.Lists.{each_map}
 use Rattle.mesh_model.proofs.TrailTables.{on_trail}
 use Rattle.mesh_model.specs.Invariants.{AtLeast, IsHonest}
-use Rattle.mesh_model.specs.Trails.{Around, CopyHasWalk, EntriesHaveWalks, HasEntryWalk, HasWalks, IsAbsent, IsBackedWalk, ItemHasWalk, MessageHasWalk, around, front}
+use Rattle.mesh_model.specs.Trails.{Around, CopyHasWalk, EntriesHaveWalks, EntryHasWalk, HasEntryWalk, HasWalks, IsAbsent, IsBackedWalk, ItemHasWalk, MessageHasWalk, around, front}
 use Rattle.mesh_model.specs.Worlds.{World, are_linked, is_parcel}
-use Rattle.mesh_trail.proofs.Stems.{Had, IsFrom, Stays, Stems}
-use Rattle.mesh_trail.specs.Held.{CopyHolds, EntriesHold, Holds, IsEntryWalk, ItemHolds, ItemsHold, MessageHolds, NodeHolds}
-use Rattle.mesh_trail.specs.Kept.{KeptLists, entries_after, entry_list, is_near, is_route, is_told}
+use Rattle.mesh_model.proofs.Stems.{Had, IsFrom, Stays, Stems}
+use Rattle.mesh_model.specs.Held.{CopyHolds, EntriesHold, EntryHolds, Holds, IsEntryWalk, ItemHolds, ItemsHold, MessageHolds, NodeHolds}
+use Rattle.mesh_model.specs.Kept.{KeptLists, entries_after, entry_list, is_near, is_route, is_told}
 
 -- ---- where lists are walks there are walks
 
@@ -28,13 +30,13 @@ entry_has a x d n h y walk t = record { others = t.others; walk = t.backed; long
 pub entries_have : (a : Around) (x : ℕ) (rt : Table) (walks : ℕ → List ℕ) → EntriesHold a x rt walks → EntriesHaveWalks a x rt
 entries_have a x rt walks all d e is valid = entry_has a x d e.dsn e.hops e.next (walks d) (all d e is valid)
 
-message_has : (a : Around) (from : ℕ) (m : Message) (walk : List ℕ) → MessageHolds a from m walk → MessageHasWalk a from m
+pub message_has : (a : Around) (from : ℕ) (m : Message) (walk : List ℕ) → MessageHolds a from m walk → MessageHasWalk a from m
 message_has a from (Pkt b d o) walk t = tt
 message_has a from (Rreq m) walk t = record { others = t.others; walk = t.backed; long = t.long; keys = t.keys }
 message_has a from (Rrep m) walk t = record { others = t.others; walk = t.backed; long = t.long }
 message_has a from (Rerr dests) walk t = tt
 
-pub item_has : (a : Around) (x : ℕ) (item : Item) (walk : List ℕ) → ItemHolds a x item walk → ItemHasWalk a x item
+item_has : (a : Around) (x : ℕ) (item : Item) (walk : List ℕ) → ItemHolds a x item walk → ItemHasWalk a x item
 item_has a x (New b d) walk t = tt
 item_has a x (Heard from m) walk t = (t.0, message_has a from m walk t.1)
 
@@ -51,6 +53,33 @@ has_walks v w k t = record {
   flying = each_map (CopyHolds (around v w) k.flying) (CopyHasWalk (around v w)) (λ c p. (p.0, message_has (around v w) c.from c.message (k.flying c.id) p.1)) w.flying t.flying;
   stood = t.stood;
 }
+
+-- ---- walks as lists
+
+pub entry_listed : (a : Around) (x d n h y : ℕ) (t : HasEntryWalk a x d n h y) → IsEntryWalk a x d n h y (x ∷ (y ∷ t.others))
+entry_listed a x d n h y t = record { others = t.others; is = refl; backed = t.walk; long = t.long; linked = t.linked; absent = t.absent }
+
+pub entries_listed : (a : Around) (x : ℕ) (rt : Table) → EntriesHaveWalks a x rt → (walks : ℕ → List ℕ) × EntriesHold a x rt walks
+entries_listed a x rt all = (λ d. (at d (maps.get rt d) refl).0, λ d. (at d (maps.get rt d) refl).1)
+  where
+    by : (d : ℕ) (s : Entry) (f : Flag) → s.flag ≡ f → EntryHasWalk a x d s → (walk : List ℕ) × EntryHolds a x d s walk
+    by d s Val valid t = (x ∷ (s.next ∷ (t valid).others), λ _. entry_listed a x d s.dsn s.hops s.next (t valid))
+    by d s Inv other t = ([], λ valid. absurd (wrong (sym other ∙ valid)))
+      where
+        wrong : Inv ≡ Val → ⊥
+        wrong e = cc
+
+    at : (d : ℕ) (o : Option Entry) → maps.get rt d ≡ o → (walk : List ℕ) × ((e : Entry) → o ≡ Some e → EntryHolds a x d e walk)
+    at d None is = ([], λ e none. absurd (none-some e none))
+    at d (Some s) is =
+        let t : (walk : List ℕ) × EntryHolds a x d s walk = by d s s.flag refl (all d s is) in
+        (t.0, λ e same. subst (λ e. EntryHolds a x d e t.0) (same_Some s e same) t.1)
+
+pub message_listed : (a : Around) (from : ℕ) (m : Message) → MessageHasWalk a from m → (walk : List ℕ) × MessageHolds a from m walk
+message_listed a from (Pkt b d o) t = ([], tt)
+message_listed a from (Rreq m) t = (from ∷ t.others, record { others = t.others; is = refl; backed = t.walk; long = t.long; keys = t.keys })
+message_listed a from (Rrep m) t = (from ∷ t.others, record { others = t.others; is = refl; backed = t.walk; long = t.long })
+message_listed a from (Rerr dests) t = ([], tt)
 
 -- ---- entries
 

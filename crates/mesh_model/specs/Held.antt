@@ -12,7 +12,7 @@ use Rattle.aodv_model.specs.Cores.{Message, Pkt, Rreq, Rrep, Rerr, Item, New, He
 use Rattle.aodv_model.specs.Handlers.{key_of}
 use Rattle.mesh_model.specs.Worlds.{World, Node, Copy, are_linked}
 use Rattle.mesh_model.specs.Trails.{Around, IsAbsent, IsBackedWalk, around, front}
-use Rattle.mesh_trail.specs.Kept.{KeptLists}
+use Rattle.mesh_model.specs.Kept.{KeptLists}
 
 -- the list is the walk of x's entry for d with number n, h hops and next hop y: x, and then a walk
 -- of y, in which x isn't before the last node
