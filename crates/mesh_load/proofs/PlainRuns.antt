@@ -17,7 +17,7 @@ use Rattle.aodv_model.proofs.Numbers.{IsMessageWithin, IsItemWithin}
 use Rattle.mesh_model.specs.Worlds.{World, Node, Copy, Event, after, step, run, start, first_numbers}
 use Rattle.mesh_model.specs.InMesh.{IsEvent, IsCopyInMesh}
 use Rattle.mesh_model.specs.Invariants.{IsInvariant}
-use Rattle.mesh_model.proofs.Lists.{each_map}
+use Rattle.mesh_model.proofs.Lists.{each_map, each_of}
 use Rattle.mesh_model.specs.Trails.{HasWalks, HasRequestWalk, HasReplyWalk, IsBackedWalk, MessageHasWalk, ItemHasWalk, CopyHasWalk, around, front}
 use Rattle.mesh_model.proofs.Honest.{front_distinct, front_long, front_within, run_trails, start_trails}
 use Rattle.mesh_model.proofs.MeshSteps.{run_keeps}
@@ -92,10 +92,6 @@ module _ (v : Variant) (mesh : Nodes) (w : World) (is : IsMesh mesh) (size : len
       (message_clear c.from c.message inside.0.3 walks.0.1 within.0 sendable.0, flight_clear copies inside.1 walks.1 within.1 sendable.1)
 
 -- ---- worlds
-
-each_of : {A : Type 0} (P : A → Type 0) (xs : List A) → ((x : ℕ) (n : A) → slice_get xs x ≡ Some n → P n) → AllByRecursion P xs
-each_of {A} P [] each = tt
-each_of {A} P (n ∷ ns) each = (each 0 n refl, each_of P ns (λ x m at. each (suc x) m at))
 
 all_within : (mesh : Nodes) → IsMesh mesh → AllByRecursion (λ n. (1 ≤ n) × (n ≤ greatest)) (first_numbers mesh)
 all_within mesh is = through mesh (recursion_from_All (λ p. (1 ≤ p.1) × (p.1 ≤ greatest)) mesh (λ k d lt. same mesh k d lt (is.positive k lt, omega (arith, is.firsts k lt))))
