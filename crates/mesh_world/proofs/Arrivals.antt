@@ -30,7 +30,7 @@ use Rattle.mesh_world.specs.declared.steps.StepError.TheVariants as errors
 use Rattle.mesh_world.specs.Noted.{ready_with, with_turn, has_items}
 use Rattle.mesh_world.proofs.Frames.{Ends, Beside, ends_done, ends_idle, ends_no_memory, beside, later, shown_at, noted_beside, map-set, each_set, each_append, set_again, count_of}
 use Rattle.mesh_world.proofs.ReadySets.{noted_ready, noted_by_turn, some_item}
-use Rattle.mesh_world.proofs.Turns.{stands, kept_node}
+use Rattle.mesh_world.proofs.Acts.{stands, kept_node}
 
 -- ---- one more item
 

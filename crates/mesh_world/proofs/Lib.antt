@@ -9,9 +9,8 @@ pub mod Receivers
 pub mod Frames
 pub mod Casts
 pub mod Reactions
-pub mod Turns
+pub mod Acts
 pub mod Moves
-pub mod Sendings
 pub mod Arrivals
 pub mod AtOnce
 pub mod TakenAtOnce

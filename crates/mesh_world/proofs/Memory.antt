@@ -1,44 +1,43 @@
 -- Which events may ask for memory: what is read of a node or of the radio decides it.
 use Rattle.std.proofs.Common.{◌≡◌, ◌<◌, ◌+◌, ◌^◌, ℕ, zero, suc, length, arith, Bool, true, false, not, List, [], ◌∷◌, map, Option, Some, None, Ok, refl, ap, sym, subst, ◌∙◌}
 use Rattle.std.specs.Prelude.{slice_get, is_some, option_map, if◌then◌else◌}
+use Rattle.mesh_base.specs.Members.{NodeIds}
 use Rattle.mesh_base.specs.Meshes.{Nodes}
 use Rattle.mesh_base.specs.declared.events.Counter.{Counter}
 use Rattle.mesh_base.specs.declared.events.Done.TheVariants as done
 use Rattle.mesh_base.specs.declared.events.Flying.{Flying}
-use Rattle.mesh_base.specs.declared.events.Item as items
 use Rattle.aodv_model.specs.Cores.{Body}
-use Rattle.aodv_model.specs.Handlers.{may_send, may_ask}
 use Rattle.aodv_meaning.specs.Effects.{item_in}
 use Rattle.aodv_node.specs.Seen.{NodeSeen}
-use Rattle.mesh_model.specs.Worlds.{World, Event, Give, Turn, Send, Ask, Deliver, Lose, Double, WorldEffect, Outcome, Idle, Next, Full, unless_full, turn_of, step}
+use Rattle.mesh_model.specs.Worlds.{World, Event, Give, Deliver, Lose, Double, Outcome, Idle, Next, Full, unless_full, done_by, copies, range, linked_below, step}
 use Rattle.mesh_radio.specs.Copies.{held_seen, find_copy}
 use Rattle.mesh_radio.specs.Radios.{RadioState}
 use Rattle.mesh_radio.specs.declared.copies.Held.{Held}
 use Rattle.mesh_meaning.specs.Packets.{copy_in}
 use Rattle.mesh_world.specs.Seen.{node_in}
-use Rattle.mesh_world.specs.Kept.{world_in}
-use Rattle.mesh_world.specs.Noted.{has_items}
+use Rattle.mesh_world.specs.Kept.{Ready, IsKept, world_in}
+use Rattle.mesh_world.specs.Acts.{Act, Turn, Send, Ask, Deed, deed_of, event_at, effect_by, outcome_of}
 use Rattle.mesh_world.specs.Parts.{AreKept, IsDoneTo, seen_in}
 use Rattle.mesh_world.specs.Steps.{is_idle, may_need_memory}
 use Rattle.mesh_world.specs.declared.parts.Parts.{Parts}
-use Rattle.mesh_world.proofs.Frames.{shown_at, beside, later, ends_idle}
+use Rattle.mesh_world.proofs.Frames.{shown_at, beside, later, ends_idle, roomed, roomed_shown}
+use Rattle.mesh_world.proofs.Reactions.{near_is}
 use Rattle.mesh_world.proofs.Moves.{of_ends}
-use Rattle.mesh_world.proofs.Turns.{turn_at}
-use Rattle.mesh_world.proofs.Sendings.{send_at, ask_at}
+use Rattle.mesh_world.proofs.Acts.{act_at}
 use Rattle.mesh_world.proofs.Arrivals.{shown_found, shown_none, give_at, deliver_at, lose_at}
 use Rattle.mesh_world.proofs.Doublings.{double_at}
 
-abbrev is_busy : Outcome → Bool
+abbrev pub is_busy : Outcome → Bool
 is_busy o = not (is_idle o)
 
--- what is done unless a counter is full isn't idle
-busy_unless : (x : ℕ) (o : Option Counter) (w : World) (h : WorldEffect) → is_busy (unless_full x o (Next w h)) ≡ true
-busy_unless x None w h = refl
-busy_unless x (Some f) w h = refl
-
-busy_if : (b : Bool) (x : ℕ) (o : Option Counter) (w : World) (h : WorldEffect) → is_busy (if b then unless_full x o (Next w h) else Idle) ≡ b
-busy_if true x o w h = busy_unless x o w h
-busy_if false x o w h = refl
+-- what comes of an act isn't idle
+busy_with : (mesh : Nodes) (w : World) (x : ℕ) (o : Option Deed) → is_busy (outcome_of mesh w x o) ≡ is_some o
+busy_with mesh w x None = refl
+busy_with mesh w x (Some d) = unless d.full
+  where
+    unless : (f : Option Counter) → is_busy (unless_full x f (Next (done_by w x d.reaction (map (item_in mesh) d.left)) (effect_by mesh d.took (d.reaction).effect (copies w x ((d.reaction).effect).cast)))) ≡ true
+    unless None = refl
+    unless (Some f) = refl
 
 -- ---- by the kind of the event
 
@@ -53,24 +52,26 @@ needs_give mesh nodes radio x d b l =
     let n = there nodes x l in
     sym (ap is_busy (give_at (world_in mesh nodes radio) x d b (node_in mesh n.0) (shown_at mesh nodes radio x n.0 n.1)))
 
-pub needs_turn : (mesh : Nodes) (nodes : List NodeSeen) (radio : RadioState) (x : ℕ) (n : NodeSeen) → slice_get nodes x ≡ Some n
-    → has_items n.items ≡ may_need_memory (world_in mesh nodes radio) (Turn x)
-needs_turn mesh nodes radio x n at =
-    sym (ap is_busy (turn_at (world_in mesh nodes radio) x (node_in mesh n) (shown_at mesh nodes radio x n at)) ∙ by_items n.items)
-  where
-    by_items : (is : List items.Item) → is_busy (turn_of (world_in mesh nodes radio) x n.core (map (item_in mesh) is)) ≡ has_items is
-    by_items [] = refl
-    by_items (i ∷ is) = busy_unless x _ _ _
+pub busy_act : (mesh : Nodes) (nodes : List NodeSeen) (radio : RadioState) (x : ℕ) (n : NodeSeen) (act : Act) → slice_get nodes x ≡ Some n
+    → is_some (deed_of mesh (range (world_in mesh nodes radio) x) n act) ≡ is_busy (step (world_in mesh nodes radio) (event_at x act))
+busy_act mesh nodes radio x n act at =
+    sym (ap is_busy (act_at mesh nodes radio x n (range (world_in mesh nodes radio) x) act at refl) ∙ busy_with mesh (world_in mesh nodes radio) x (deed_of mesh (range (world_in mesh nodes radio) x) n act))
 
-pub needs_send : (mesh : Nodes) (nodes : List NodeSeen) (radio : RadioState) (x d : ℕ) (n : NodeSeen) → slice_get nodes x ≡ Some n
-    → may_send n.core d ≡ may_need_memory (world_in mesh nodes radio) (Send x d)
-needs_send mesh nodes radio x d n at =
-    sym (ap is_busy (send_at mesh nodes radio x d n (may_send n.core d) at refl) ∙ busy_if (may_send n.core d) x _ _ _)
+pub needs_act : (w : World) (x : ℕ) (act : Act) → is_busy (step w (event_at x act)) ≡ may_need_memory w (event_at x act)
+needs_act w x Turn = refl
+needs_act w x (Send d) = refl
+needs_act w x (Ask d) = refl
 
-pub needs_ask : (mesh : Nodes) (nodes : List NodeSeen) (radio : RadioState) (x d : ℕ) (n : NodeSeen) → slice_get nodes x ≡ Some n
-    → may_ask n.core d ≡ may_need_memory (world_in mesh nodes radio) (Ask x d)
-needs_ask mesh nodes radio x d n at =
-    sym (ap is_busy (ask_at mesh nodes radio x d n (may_ask n.core d) at refl) ∙ busy_if (may_ask n.core d) x _ _ _)
+-- the same, with rooms made in the radio, by the nodes that are in range then
+pub short_act : (mesh : Nodes) (nodes : List NodeSeen) (old radio : RadioState) (ready : Ready) (steps x : ℕ) (near : NodeIds) (n : NodeSeen) (act : Act)
+    → IsKept mesh nodes old ready steps → radio ≡ record old { room = radio.room; most = radio.most } → slice_get nodes x ≡ Some n → near ≡ linked_below radio.links x radio.size
+    → is_some (deed_of mesh near n act) ≡ true → may_need_memory (world_in mesh nodes old) (event_at x act) ≡ true
+short_act mesh nodes old radio ready steps x near n act k rooms at linked enabled =
+    sym (needs_act (world_in mesh nodes old) x act)
+    ∙ ap (λ (w : World). is_busy (step w (event_at x act))) (sym (roomed_shown mesh nodes old radio rooms))
+    ∙ sym (busy_act mesh nodes radio x n act at)
+    ∙ ap (λ (r : NodeIds). is_some (deed_of mesh r n act)) (sym (near_is mesh nodes radio ready steps x near (roomed mesh nodes old radio ready steps rooms k) linked))
+    ∙ enabled
 
 -- whether there is a copy is told by its receiver, and by what is seen of it
 pub receiver_is_some : (o : Option ℕ) (p : Option Flying) → o ≡ option_map (λ f. f.to) p → is_some o ≡ is_some p

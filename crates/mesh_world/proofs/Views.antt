@@ -14,7 +14,7 @@ use Rattle.mesh_world.specs.Noted.{AreReadyIn}
 use Rattle.mesh_world.specs.Ends.{AreOfWorld}
 use Rattle.mesh_world.specs.Counted.{AreCounted}
 use Rattle.mesh_world.proofs.Frames.{count_of, node_at, shown_at, size_at}
-use Rattle.mesh_world.proofs.Turns.{kept_node}
+use Rattle.mesh_world.proofs.Acts.{kept_node}
 
 pub ready_in : (mesh : Nodes) (nodes : List NodeSeen) (radio : RadioState) (ready : Ready) (steps : ℕ) → IsKept mesh nodes radio ready steps → AreReadyIn mesh nodes ready
 ready_in mesh nodes radio ready steps k = record { count = count_of mesh nodes radio ready steps k; sets = k.sets }

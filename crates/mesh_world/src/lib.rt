@@ -3,6 +3,7 @@
 //! hops, and no datum is invented, or lost without being counted.
 #![tactic(auto)]
 
+mod act;
 mod choices;
 mod event_counts;
 mod nodes;
@@ -10,7 +11,6 @@ mod parts;
 mod ready;
 mod restored;
 mod route;
-mod short;
 mod steps;
 mod totals;
 mod world;

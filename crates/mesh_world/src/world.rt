@@ -19,6 +19,7 @@ ghost use Rattle.mesh_world.specs.Ends.{end_in, IsEndIn};
 ghost use Rattle.mesh_world.specs.Parts.{AreOpened};
 ghost use Rattle.mesh_world.specs.Restored.{AreNodesOf, AreWritten, AreSoundParts, IsFirstPart, most_steps_at_first};
 
+use crate::act::{Ask, Send, Turn};
 use crate::choices::{first_ask, first_send, first_turn};
 use crate::event_counts::EventCounts;
 use crate::nodes::Nodes;
@@ -241,9 +242,9 @@ impl Steps for World {
             Event::Give { node, dest, body } => {
                 self.parts.give(alloc, node, dest, body, wanted, answer)
             }
-            Event::Turn { node } => self.parts.turn(node, out, wanted, answer),
-            Event::Send { node, dest } => self.parts.send(node, dest, out, wanted, answer),
-            Event::Ask { node, dest } => self.parts.ask(node, dest, out, wanted, answer),
+            Event::Turn { node } => self.parts.act(node, Turn, out, wanted, answer),
+            Event::Send { node, dest } => self.parts.act(node, Send { dest }, out, wanted, answer),
+            Event::Ask { node, dest } => self.parts.act(node, Ask { dest }, out, wanted, answer),
             Event::Link { a, b } => self.parts.link(a, b, wanted, answer),
             Event::Cut { a, b } => self.parts.cut(a, b, wanted, answer),
             Event::Deliver { id } => self.parts.deliver_copy(alloc, id, wanted, answer),

@@ -18,49 +18,49 @@ pub returns-in-Give-clause-account : goal.returns-in-Give-clause-account
 returns-in-Give-clause-account c = accounted_at _ _ _ _ _ _ _ _ _ c.in-Give.is c.self.view_is c.self.invariant c.requires.event (c.give.ensures.done c.args.out.now.items)
 
 pub invariant_of-self-in-Turn : goal.invariant_of-self-in-Turn
-invariant_of-self-in-Turn c = (c.turn.ensures.done).done.kept
+invariant_of-self-in-Turn c = (c.act.ensures.done).done.kept
 
 pub returns-in-Turn-clause-sound : goal.returns-in-Turn-clause-sound
-returns-in-Turn-clause-sound c = (c.turn.ensures.done).done.kept.sound
+returns-in-Turn-clause-sound c = (c.act.ensures.done).done.kept.sound
 
 pub returns-in-Turn-clause-counted : goal.returns-in-Turn-clause-counted
-returns-in-Turn-clause-counted c = counted_at _ _ _ _ _ _ _ _ _ c.in-Turn.is c.self.view_is (c.turn.ensures.done)
+returns-in-Turn-clause-counted c = counted_at _ _ _ _ _ _ _ _ _ c.in-Turn.is c.self.view_is (c.act.ensures.done)
 
 pub returns-in-Turn-clause-told : goal.returns-in-Turn-clause-told
-returns-in-Turn-clause-told c = steps_at _ _ _ _ _ _ _ _ _ c.in-Turn.is c.self.view_is (c.turn.ensures.done)
+returns-in-Turn-clause-told c = steps_at _ _ _ _ _ _ _ _ _ c.in-Turn.is c.self.view_is (c.act.ensures.done)
 
 pub returns-in-Turn-clause-account : goal.returns-in-Turn-clause-account
-returns-in-Turn-clause-account c = accounted_at _ _ _ _ _ _ _ _ _ c.in-Turn.is c.self.view_is c.self.invariant c.requires.event (c.turn.ensures.done)
+returns-in-Turn-clause-account c = accounted_at _ _ _ _ _ _ _ _ _ c.in-Turn.is c.self.view_is c.self.invariant c.requires.event (c.act.ensures.done)
 
 pub invariant_of-self-in-Send : goal.invariant_of-self-in-Send
-invariant_of-self-in-Send c = (c.send.ensures.done).done.kept
+invariant_of-self-in-Send c = (c.act-in-Send.ensures.done).done.kept
 
 pub returns-in-Send-clause-sound : goal.returns-in-Send-clause-sound
-returns-in-Send-clause-sound c = (c.send.ensures.done).done.kept.sound
+returns-in-Send-clause-sound c = (c.act-in-Send.ensures.done).done.kept.sound
 
 pub returns-in-Send-clause-counted : goal.returns-in-Send-clause-counted
-returns-in-Send-clause-counted c = counted_at _ _ _ _ _ _ _ _ _ c.in-Send.is c.self.view_is (c.send.ensures.done)
+returns-in-Send-clause-counted c = counted_at _ _ _ _ _ _ _ _ _ c.in-Send.is c.self.view_is (c.act-in-Send.ensures.done)
 
 pub returns-in-Send-clause-told : goal.returns-in-Send-clause-told
-returns-in-Send-clause-told c = steps_at _ _ _ _ _ _ _ _ _ c.in-Send.is c.self.view_is (c.send.ensures.done)
+returns-in-Send-clause-told c = steps_at _ _ _ _ _ _ _ _ _ c.in-Send.is c.self.view_is (c.act-in-Send.ensures.done)
 
 pub returns-in-Send-clause-account : goal.returns-in-Send-clause-account
-returns-in-Send-clause-account c = accounted_at _ _ _ _ _ _ _ _ _ c.in-Send.is c.self.view_is c.self.invariant c.requires.event (c.send.ensures.done)
+returns-in-Send-clause-account c = accounted_at _ _ _ _ _ _ _ _ _ c.in-Send.is c.self.view_is c.self.invariant c.requires.event (c.act-in-Send.ensures.done)
 
 pub invariant_of-self-in-Ask : goal.invariant_of-self-in-Ask
-invariant_of-self-in-Ask c = (c.ask.ensures.done).done.kept
+invariant_of-self-in-Ask c = (c.act-in-Ask.ensures.done).done.kept
 
 pub returns-in-Ask-clause-sound : goal.returns-in-Ask-clause-sound
-returns-in-Ask-clause-sound c = (c.ask.ensures.done).done.kept.sound
+returns-in-Ask-clause-sound c = (c.act-in-Ask.ensures.done).done.kept.sound
 
 pub returns-in-Ask-clause-counted : goal.returns-in-Ask-clause-counted
-returns-in-Ask-clause-counted c = counted_at _ _ _ _ _ _ _ _ _ c.in-Ask.is c.self.view_is (c.ask.ensures.done)
+returns-in-Ask-clause-counted c = counted_at _ _ _ _ _ _ _ _ _ c.in-Ask.is c.self.view_is (c.act-in-Ask.ensures.done)
 
 pub returns-in-Ask-clause-told : goal.returns-in-Ask-clause-told
-returns-in-Ask-clause-told c = steps_at _ _ _ _ _ _ _ _ _ c.in-Ask.is c.self.view_is (c.ask.ensures.done)
+returns-in-Ask-clause-told c = steps_at _ _ _ _ _ _ _ _ _ c.in-Ask.is c.self.view_is (c.act-in-Ask.ensures.done)
 
 pub returns-in-Ask-clause-account : goal.returns-in-Ask-clause-account
-returns-in-Ask-clause-account c = accounted_at _ _ _ _ _ _ _ _ _ c.in-Ask.is c.self.view_is c.self.invariant c.requires.event (c.ask.ensures.done)
+returns-in-Ask-clause-account c = accounted_at _ _ _ _ _ _ _ _ _ c.in-Ask.is c.self.view_is c.self.invariant c.requires.event (c.act-in-Ask.ensures.done)
 
 pub invariant_of-self-in-Link : goal.invariant_of-self-in-Link
 invariant_of-self-in-Link c = (c.link.ensures.done c.args.out.now.items).done.kept

@@ -1,0 +1,131 @@
+-- What a node does by itself, and what that is to a world. No public contract cites this file.
+use Rattle.std.specs.Prelude.{◌≡◌, ◌<◌, ℕ, Bool, true, if◌then◌else◌, is_some, Option, Some, None, Result, Ok, Err, List, [], ◌∷◌, map, ⊤}
+use Rattle.mesh_base.specs.Members.{NodeIds}
+use Rattle.mesh_base.specs.Meshes.{Nodes}
+use Rattle.mesh_base.specs.declared.events.Air.{Air}
+use Rattle.mesh_base.specs.declared.events.Counter.{Counter}
+use Rattle.mesh_base.specs.declared.events.Done.{Done}
+use Rattle.mesh_base.specs.declared.events.Done.TheVariants as done
+use Rattle.mesh_base.specs.declared.events.Effect.{Effect}
+use Rattle.mesh_base.specs.declared.events.Item as items
+use Rattle.mesh_base.specs.declared.events.Took.{Took}
+use Rattle.aodv_model.specs.Cores.{Core}
+use Rattle.aodv_model.specs.Handlers as handlers
+use Rattle.aodv_model.specs.Handlers.{Reaction, turn, took, may_send, send, may_ask, ask}
+use Rattle.aodv_model.specs.Fullness.{turn_full, send_full, ask_full}
+use Rattle.aodv_meaning.specs.Effects.{item_in}
+use Rattle.aodv_handlers.specs.Made.{IsMade}
+use Rattle.aodv_node.specs.Seen.{NodeSeen}
+use Rattle.aodv_node.specs.Turned.{taken_of}
+use Rattle.mesh_model.specs.Worlds as worlds
+use Rattle.mesh_model.specs.Worlds.{World, Event, Copy, WorldEffect, Outcome, Idle, Next, copies, done_by, unless_full}
+use Rattle.mesh_meaning.specs.Answers.{took_in}
+use Rattle.mesh_world.specs.declared.act.Unacted.{Unacted}
+use Rattle.mesh_world.specs.declared.act.Unacted.TheVariants as refused
+
+-- a node takes a turn, sends a datum that waits for a destination, or asks for a route to one
+pub data Act : Type 0 where
+  Turn : Act
+  Send : (dest : ℕ) → Act
+  Ask : (dest : ℕ) → Act
+
+-- the event in which node x does so
+abbrev pub event_at : ℕ → Act → Event
+event_at x Turn = worlds.Turn x
+event_at x (Send d) = worlds.Send x d
+event_at x (Ask d) = worlds.Ask x d
+
+-- the destination, if there is one, is below `size`
+abbrev pub IsFor : ℕ → Act → Type 0
+IsFor size Turn = ⊤
+IsFor size (Send d) = d < size
+IsFor size (Ask d) = d < size
+
+-- what comes of an act, unless it would overfill the field `full`: the node reacts, and these items
+-- are left in its inbox; and what was taken from there
+pub record Deed : Type 0 where
+  pub full : Option Counter
+  pub reaction : Reaction
+  pub left : List items.Item
+  pub took : Option Took
+
+abbrev pub turn_deed : Nodes → NodeIds → Core → List items.Item → Option Deed
+turn_deed mesh range core [] = None
+turn_deed mesh range core (front ∷ rest) =
+    let item = item_in mesh front in
+    Some (record {
+      full = turn_full core range item;
+      reaction = turn core range item;
+      left = rest;
+      took = Some (taken_of front (took core item));
+    })
+
+-- what comes of an act of the node `n`, with the nodes of `range` in range; None if it isn't
+-- enabled
+abbrev pub deed_of : Nodes → NodeIds → NodeSeen → Act → Option Deed
+deed_of mesh range n Turn = turn_deed mesh range n.core n.items
+deed_of mesh range n (Send d) =
+    if may_send n.core d
+    then Some (record {
+      full = send_full n.core range d;
+      reaction = send n.core range d;
+      left = n.items;
+      took = None;
+    })
+    else None
+deed_of mesh range n (Ask d) =
+    if may_ask n.core d
+    then Some (record {
+      full = ask_full n.core;
+      reaction = ask n.core d;
+      left = n.items;
+      took = None;
+    })
+    else None
+
+-- ---- what the code did
+
+-- the node did it: `took` was taken, and this is its effect besides
+pub record IsDeed (mesh : Nodes) (range : NodeIds) (act : Act) (old : NodeSeen)
+    (took : Option Took) (effect : Effect) (new : NodeSeen) (out : List ℕ) : Type 0 where
+  pub deed : Deed
+  pub is : deed_of mesh range old act ≡ Some deed
+  pub made : IsMade mesh deed.full deed.reaction effect new.core out
+  pub left : new.items ≡ deed.left
+  pub taken : took ≡ deed.took
+  pub size : new.size ≡ old.size
+
+-- an act of the node `old`: its answer, from which `took` tells what was taken, the node after it,
+-- and the packet that is cast
+abbrev pub IsActed : {T : Type 0} → (T → Option Took) → Nodes → NodeIds → Act → NodeSeen
+    → Result (T × Effect) Unacted → NodeSeen → List ℕ → Type 0
+IsActed took mesh range act old (Ok p) new out =
+    IsDeed mesh range act old (took p.0) p.1 new out
+IsActed took mesh range act old (Err refused.Idle) new out =
+    (deed_of mesh range old act ≡ None) × (new ≡ old)
+IsActed took mesh range act old (Err (refused.Full field)) new out =
+    (deed : Deed) × (deed_of mesh range old act ≡ Some deed) × (deed.full ≡ Some field)
+    × (new ≡ old)
+IsActed took mesh range act old (Err refused.NoMemory) new out =
+    (is_some (deed_of mesh range old act) ≡ true) × (new ≡ old)
+
+-- what is answered of an act
+abbrev pub done_of : Option Took → Effect → Air → Done
+done_of (Some t) effect air = done.Taken t effect air
+done_of None effect air = done.Sent effect air
+
+-- ---- what it is to a world
+
+-- what came of it, by what was taken
+abbrev pub effect_by : Nodes → Option Took → handlers.Effect → List Copy → WorldEffect
+effect_by mesh (Some t) effect flying = worlds.Taken (took_in mesh t) effect flying
+effect_by mesh None effect flying = worlds.Sent effect flying
+
+-- the outcome of what comes of an act of node x
+abbrev pub outcome_of : Nodes → World → ℕ → Option Deed → Outcome
+outcome_of mesh w x None = Idle
+outcome_of mesh w x (Some d) =
+    let effect = (d.reaction).effect in
+    unless_full x d.full
+    (Next (done_by w x d.reaction (map (item_in mesh) d.left))
+    (effect_by mesh d.took effect (copies w x effect.cast)))
