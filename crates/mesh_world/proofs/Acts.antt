@@ -68,6 +68,7 @@ readable mesh nodes radio ready steps x n k at =
     one : (i : items.Item) → IsWrittenItem mesh i → IsItemInMesh (length mesh) x (item_in mesh i) → IsReadableItem mesh i
     one (item.New dest body) written is = tt
     one (item.Heard from bytes) written is = record { allowed = written.encodes.allowed; known = (sent_means mesh bytes (meaning mesh bytes) (k.sound).mesh is.2 written).1 }
+
     all : (is : List items.Item) → AllByRecursion (IsWrittenItem mesh) is → AllByRecursion (IsItemInMesh (length mesh) x) (map (item_in mesh) is) → AllByRecursion (IsReadableItem mesh) is
     all [] written is = tt
     all (i ∷ rest) written is = (one i written.0 is.0, all rest written.1 is.1)
@@ -132,6 +133,7 @@ sound_deed mesh x n near act d l s had is = by act is
   where
     mine : (n.core).ip < length mesh
     mine = subst (λ (me : ℕ). me < length mesh) (sym s.named) l
+
     turned : (is : List items.Item) → AllByRecursion (IsWrittenItem mesh) is → AllByRecursion (IsItemInMesh (length mesh) x) (map (item_in mesh) is) → turn_deed mesh near n.core is ≡ Some d → Sound mesh (n.core).ip d
     turned [] written inside e = absurd (none-some d e)
     turned (front ∷ rest) written inside e =
@@ -142,6 +144,7 @@ sound_deed mesh x n near act d l s had is = by act is
           items = written.1;
           took = λ effect air out h. (took_in_mesh mesh n.core front here written.0, h);
         })
+
     by : (a : Act) → deed_of mesh near n a ≡ Some d → Sound mesh (n.core).ip d
     by Turn e = turned n.items had.items s.queue e
     by (Send q) e =
@@ -252,16 +255,22 @@ act_refused_end seen mesh nodes old radio ready steps x near n new act why out k
   where
     r : IsKept mesh nodes radio ready steps
     r = roomed mesh nodes old radio ready steps rooms k
+
     at : slice_get nodes x ≡ Some n
     at = node_at mesh nodes old ready steps x n k l is
+
     does : step (world_in mesh nodes radio) (event_at x act) ≡ outcome_of mesh (world_in mesh nodes radio) x (deed_of mesh near n act)
     does = act_at mesh nodes radio x n near act at (near_is mesh nodes radio ready steps x near r linked)
+
     back : new ≡ n → slice_set nodes x new ≡ nodes
     back same = set_back nodes x n new at same
+
     shown : new ≡ n → world_in mesh (slice_set nodes x new) radio ≡ world_in mesh nodes radio
     shown same = ap (λ (ns : List NodeSeen). world_in mesh ns radio) (back same)
+
     still : new ≡ n → Beside mesh (slice_set nodes x new) radio ready steps
     still same = with_same mesh nodes (slice_set nodes x new) radio ready steps (back same) (beside mesh nodes radio ready steps r)
+
     by : (w : Unacted) → IsActed seen mesh near act n (Err w) new out → Ends (event_at x act) mesh nodes radio steps (refusal_of x w) (slice_set nodes x new) radio ready (steps_after steps w) out
     by refused.Idle t =
         ends_idle (event_at x act) mesh nodes radio ready steps (slice_set nodes x new) radio out r few (does ∙ ap (outcome_of mesh (world_in mesh nodes radio) x) t.0) (shown t.1)

@@ -21,6 +21,9 @@ pub(crate) enum Unacted {
     NoMemory,
 }
 
+/// What was taken, and what the node did besides.
+pub(crate) type Acted<T> = Result<(T, Effect), Unacted>;
+
 /// What a node does by itself.
 pub(crate) trait Acts: Copy {
     /// What is taken from the inbox.
@@ -39,7 +42,7 @@ pub(crate) trait Acts: Copy {
         mesh: &Mesh,
         range: &NodeSet,
         out: &mut Packet,
-    ) -> Result<(Self::Taken, Effect), Unacted>
+    ) -> Acted<Self::Taken>
         requires mesh { length mesh.now ≡ node.old.size }
         requires dest { IsFor (length mesh.now) (act self) }
         requires readable { AllByRecursion (IsReadableItem mesh.now) node.old.items }
@@ -80,13 +83,7 @@ impl Acts for Turn {
     ghost took = { Some };
 
     #[inline(always)]
-    fn of(
-        self,
-        node: &mut Node,
-        mesh: &Mesh,
-        range: &NodeSet,
-        out: &mut Packet,
-    ) -> Result<(Took, Effect), Unacted> {
+    fn of(self, node: &mut Node, mesh: &Mesh, range: &NodeSet, out: &mut Packet) -> Acted<Took> {
         match node.turn(mesh, range, out) {
             Ok(TurnDone { took, effect }) => Ok((took, effect)),
             Err(TurnError::Idle) => Err(Unacted::Idle),
@@ -117,13 +114,7 @@ impl Acts for Send {
     ghost took = { λ _. None };
 
     #[inline(always)]
-    fn of(
-        self,
-        node: &mut Node,
-        mesh: &Mesh,
-        range: &NodeSet,
-        out: &mut Packet,
-    ) -> Result<((), Effect), Unacted> {
+    fn of(self, node: &mut Node, mesh: &Mesh, range: &NodeSet, out: &mut Packet) -> Acted<()> {
         match node.send(mesh, range, self.dest, out) {
             Ok(effect) => Ok(((), effect)),
             Err(SendError::Idle) => Err(Unacted::Idle),
@@ -151,13 +142,7 @@ impl Acts for Ask {
     ghost took = { λ _. None };
 
     #[inline(always)]
-    fn of(
-        self,
-        node: &mut Node,
-        mesh: &Mesh,
-        _range: &NodeSet,
-        out: &mut Packet,
-    ) -> Result<((), Effect), Unacted> {
+    fn of(self, node: &mut Node, mesh: &Mesh, _range: &NodeSet, out: &mut Packet) -> Acted<()> {
         match node.ask(mesh, self.dest, out) {
             Ok(effect) => Ok(((), effect)),
             Err(AskError::Idle) => Err(Unacted::Idle),
