@@ -1,9 +1,8 @@
 -- The account of the data at an event.
-use Rattle.std.proofs.Common.{◌≡◌, ℕ, List, length, Bool, Result, Ok, Err, sym, ap, subst, arith}
+use Rattle.std.proofs.Common.{◌≡◌, ℕ, List, length, Bool, Result, Ok, Err, sym, ap, subst}
 use Rattle.mesh_base.specs.declared.events.Done.{Done}
 use Rattle.mesh_base.specs.declared.events.Event.{Event as EventGiven}
-use Rattle.mesh_model.specs.Worlds.{World, Event, step, after}
-use Rattle.mesh_model.specs.Accounts.{Test, delivered_data, dropped_data, given_data, doubled_data}
+use Rattle.mesh_model.specs.Worlds.{Event, step, after}
 use Rattle.mesh_model.specs.InMesh.{IsEvent}
 use Rattle.mesh_model.proofs.AccountSteps.{step_balanced}
 use Rattle.mesh_meaning.specs.Events.{event_of}

@@ -1,6 +1,6 @@
 -- An act of a node is the model's step of the world.
 use Rattle.std.proofs.Common.{◌≡◌, ◌==◌, ℕ, ◌<◌, ◌≤◌, ◌+◌, ◌^◌, Bool, true, false, List, [], ◌∷◌, map, length, Some, None, Option, Result, Ok, Err, refl, ap, sym, ◌∙◌, subst, arith}
-use Rattle.std.specs.Prelude.{slice_get, slice_set, slice_index_or, is_some, if◌then◌else◌}
+use Rattle.std.specs.Prelude.{slice_get, slice_set, slice_index_or, if◌then◌else◌}
 use Rattle.std.specs.List.{AllByRecursion}
 use Rattle.std.proofs.lemmas.Option.{same_Some, none-some}
 use Rattle.mesh_base.specs.Members.{NodeIds}
@@ -34,14 +34,14 @@ use Rattle.aodv_node.specs.declared.answers.TurnDone.{TurnDone}
 use Rattle.mesh_world.specs.declared.steps.StepError.{StepError}
 use Rattle.mesh_world.specs.declared.steps.StepError.TheVariants as errors
 use Rattle.mesh_model.specs.Worlds as worlds
-use Rattle.mesh_model.specs.Worlds.{World, Copy, Outcome, Idle, Next, step, range, linked_below, turn_of, send_of, ask_of, unless_full, at_node, done_by, copies}
+use Rattle.mesh_model.specs.Worlds.{World, Copy, WorldEffect, Outcome, Idle, Next, step, range, linked_below, turn_of, send_of, ask_of, unless_full, at_node, done_by, copies}
 use Rattle.mesh_model.specs.InMesh.{IsNodeInMesh, IsEvent}
 use Rattle.mesh_model.specs.Accounts.{any, given_data, doubled_data}
 use Rattle.mesh_radio.specs.Radios.{RadioState}
 use Rattle.mesh_meaning.specs.Events.{node_of}
-use Rattle.mesh_meaning.specs.Packets.{IsWritten, IsWrittenItem}
+use Rattle.mesh_meaning.specs.Packets.{IsWrittenItem}
 use Rattle.mesh_meaning.specs.Answers.{took_in, IsTookInMesh, IsEffectInMesh, IsDoneInMesh, outcome_in, effect_in, copies_in}
-use Rattle.mesh_world.specs.Acts.{Act, Turn, Send, Ask, IsFor, event_at, Deed, deed_of, turn_deed, IsDeed, IsActed, done_of, effect_by, outcome_of}
+use Rattle.mesh_world.specs.Acts.{Act, Turn, Send, Ask, IsFor, event_at, Deed, deed_of, turn_deed, sent_deed, IsDeed, IsActed, done_of}
 use Rattle.mesh_world.specs.declared.act.Unacted.{Unacted}
 use Rattle.mesh_world.specs.declared.act.Unacted.TheVariants as refused
 use Rattle.mesh_world.specs.Seen.{node_in}
@@ -92,6 +92,20 @@ took_in_mesh mesh core (item.New dest body) item_is_in_mesh written = datum_in m
 took_in_mesh mesh core (item.Heard from bytes) item_is_in_mesh written = (item_is_in_mesh.0, refl, record { written = written; in_mesh = item_is_in_mesh.2 })
 
 -- ---- the step
+
+-- what came of it, by what was taken
+abbrev pub effect_by : Nodes → Option Took → handlers.Effect → List Copy → WorldEffect
+effect_by mesh (Some t) effect flying = worlds.Taken (took_in mesh t) effect flying
+effect_by mesh None effect flying = worlds.Sent effect flying
+
+-- the outcome of what comes of an act of node x
+abbrev pub outcome_of : Nodes → World → ℕ → Option Deed → Outcome
+outcome_of mesh w x None = Idle
+outcome_of mesh w x (Some d) =
+    let effect = (d.reaction).effect in
+    unless_full x d.full
+    (Next (done_by w x d.reaction (map (item_in mesh) d.left))
+    (effect_by mesh d.took effect (copies w x effect.cast)))
 
 may_step : (mesh : Nodes) (w : World) (x : ℕ) (b : Bool) (d : Deed) → (if b then outcome_of mesh w x (Some d) else Idle) ≡ outcome_of mesh w x (if b then Some d else None)
 may_step mesh w x true d = refl
@@ -226,15 +240,6 @@ act_done mesh nodes radio radio' ready ready' steps x near n new act took effect
     (made.took effect air out c.in_mesh)
     (noted_beside mesh (slice_set nodes x new) radio' ready' (ready_with ready x new (length mesh)) (steps + 1) noted_is c.beside))
 
--- with rooms made in the radio first
-pub act_done_end : (mesh : Nodes) (nodes : List NodeSeen) (old radio radio' : RadioState) (ready ready' : Ready) (steps x : ℕ) (near : NodeIds) (n new : NodeSeen) (act : Act) (took : Option Took) (effect : code.Effect) (out : List ℕ) (air : Air)
-    → IsKept mesh nodes old ready steps → radio ≡ record old { room = radio.room; most = radio.most } → steps < 2 ^ 48 → x < length mesh → IsFor (length mesh) act → n ≡ slice_index_or nodes x n → near ≡ linked_below radio.links x radio.size
-    → IsSoundNode new → IsDeed mesh near act n took effect new out → Sends mesh x near effect out air radio radio' → ready' ≡ ready_with ready x new (length mesh)
-    → Ends (event_at x act) mesh nodes old steps (Ok (done_of took effect air)) (slice_set nodes x new) radio' ready' (steps + 1) out
-act_done_end mesh nodes old radio radio' ready ready' steps x near n new act took effect out air k rooms few l for is linked sound t sends noted_is =
-    began (event_at x act) mesh nodes old radio steps (Ok (done_of took effect air)) (slice_set nodes x new) radio' ready' (steps + 1) out rooms
-    (act_done mesh nodes radio radio' ready ready' steps x near n new act took effect out air (roomed mesh nodes old radio ready steps rooms k) few l for (node_at mesh nodes old ready steps x n k l is) linked sound t sends noted_is)
-
 -- what is answered of an act of node x that was refused, or wasn't enabled, and the steps after it
 abbrev pub refusal_of : ℕ → Unacted → Result Done StepError
 refusal_of x refused.Idle = Ok done.Idle
@@ -289,20 +294,20 @@ pub full_deed : (mesh : Nodes) (near : NodeIds) (n new : NodeSeen) (field : Coun
 full_deed mesh near n new field t = (_, ap (turn_deed mesh near n.core) t.0.was, t.0.full, t.1)
 
 -- a node that takes nothing from its inbox
-pub sent_deed : (mesh : Nodes) (near : NodeIds) (act : Act) (n new : NodeSeen) (b : Bool) (d : Deed) (effect : code.Effect) (out : List ℕ) → deed_of mesh near n act ≡ (if b then Some d else None) → b ≡ true → new ≡ record n { core = new.core }
-    → IsMade mesh d.full d.reaction effect new.core out → d.left ≡ n.items → d.took ≡ None → IsDeed mesh near act n None effect new out
-sent_deed mesh near act n new b d effect out is may others made left took = record {
-  deed = d;
-  is = is ∙ ap (λ (c : Bool). if c then Some d else None) may;
+pub sent_done : (mesh : Nodes) (near : NodeIds) (act : Act) (n new : NodeSeen) (b : Bool) (full : Option Counter) (reaction : handlers.Reaction) (effect : code.Effect) (out : List ℕ) → deed_of mesh near n act ≡ sent_deed n b full reaction → b ≡ true
+    → new ≡ record n { core = new.core } → IsMade mesh full reaction effect new.core out → IsDeed mesh near act n None effect new out
+sent_done mesh near act n new b full reaction effect out is may others made = record {
+  deed = record { full = full; reaction = reaction; left = n.items; took = None };
+  is = is ∙ ap (λ (c : Bool). sent_deed n c full reaction) may;
   made = made;
-  left = ap (λ (m : NodeSeen). m.items) others ∙ sym left;
-  taken = sym took;
+  left = ap (λ (m : NodeSeen). m.items) others;
+  taken = refl;
   size = ap (λ (m : NodeSeen). m.size) others;
 }
 
-pub sent_full : (b : Bool) (d : Deed) (n new : NodeSeen) (field : Counter) → b ≡ true → new ≡ record n { core = new.core } → IsFull d.full n.core field new.core
-    → (deed : Deed) × ((if b then Some d else None) ≡ Some deed) × (deed.full ≡ Some field) × (new ≡ n)
-sent_full b d n new field may others t = (d, ap (λ (c : Bool). if c then Some d else None) may, t.overfull, others ∙ (λ i. record n { core = t.same i }))
+pub sent_full : (n new : NodeSeen) (b : Bool) (full : Option Counter) (reaction : handlers.Reaction) (field : Counter) → b ≡ true → new ≡ record n { core = new.core } → IsFull full n.core field new.core
+    → (deed : Deed) × (sent_deed n b full reaction ≡ Some deed) × (deed.full ≡ Some field) × (new ≡ n)
+sent_full n new b full reaction field may others t = (_, ap (λ (c : Bool). sent_deed n c full reaction) may, t.overfull, others ∙ (λ i. record n { core = t.same i }))
 
 pub no_refusal : (mesh : Nodes) (n new : NodeSeen) (from : ℕ) (why : WireError) → AllByRecursion (IsReadableItem mesh) n.items → (bytes : List ℕ) × (refusal bytes ≡ Some why) × IsDropped n from bytes new → ⊥
 no_refusal mesh n new from why all d = none-some why (sym ((subst (AllByRecursion (IsReadableItem mesh)) (d.2).was all).0).allowed ∙ d.1)

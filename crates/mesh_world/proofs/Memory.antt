@@ -1,6 +1,6 @@
 -- Which events may ask for memory: what is read of a node or of the radio decides it.
 use Rattle.std.proofs.Common.{◌≡◌, ◌<◌, ◌+◌, ◌^◌, ℕ, zero, suc, length, arith, Bool, true, false, not, List, [], ◌∷◌, map, Option, Some, None, Ok, refl, ap, sym, subst, ◌∙◌}
-use Rattle.std.specs.Prelude.{slice_get, is_some, option_map, if◌then◌else◌}
+use Rattle.std.specs.Prelude.{slice_get, is_some, option_map}
 use Rattle.mesh_base.specs.Members.{NodeIds}
 use Rattle.mesh_base.specs.Meshes.{Nodes}
 use Rattle.mesh_base.specs.declared.events.Counter.{Counter}
@@ -16,14 +16,14 @@ use Rattle.mesh_radio.specs.declared.copies.Held.{Held}
 use Rattle.mesh_meaning.specs.Packets.{copy_in}
 use Rattle.mesh_world.specs.Seen.{node_in}
 use Rattle.mesh_world.specs.Kept.{Ready, IsKept, world_in}
-use Rattle.mesh_world.specs.Acts.{Act, Turn, Send, Ask, Deed, deed_of, event_at, effect_by, outcome_of}
+use Rattle.mesh_world.specs.Acts.{Act, Turn, Send, Ask, Deed, deed_of, event_at}
 use Rattle.mesh_world.specs.Parts.{AreKept, IsDoneTo, seen_in}
 use Rattle.mesh_world.specs.Steps.{is_idle, may_need_memory}
 use Rattle.mesh_world.specs.declared.parts.Parts.{Parts}
 use Rattle.mesh_world.proofs.Frames.{shown_at, beside, later, ends_idle, roomed, roomed_shown}
 use Rattle.mesh_world.proofs.Reactions.{near_is}
 use Rattle.mesh_world.proofs.Moves.{of_ends}
-use Rattle.mesh_world.proofs.Acts.{act_at}
+use Rattle.mesh_world.proofs.Acts.{act_at, effect_by, outcome_of}
 use Rattle.mesh_world.proofs.Arrivals.{shown_found, shown_none, give_at, deliver_at, lose_at}
 use Rattle.mesh_world.proofs.Doublings.{double_at}
 

@@ -1,5 +1,5 @@
--- What a node does by itself, and what that is to a world. No public contract cites this file.
-use Rattle.std.specs.Prelude.{◌≡◌, ◌<◌, ℕ, Bool, true, if◌then◌else◌, is_some, Option, Some, None, Result, Ok, Err, List, [], ◌∷◌, map, ⊤}
+-- What a node does by itself, and what comes of it. No public contract cites this file.
+use Rattle.std.specs.Prelude.{◌≡◌, ◌<◌, ℕ, Bool, true, if◌then◌else◌, is_some, Option, Some, None, Result, Ok, Err, List, [], ◌∷◌, ⊤}
 use Rattle.mesh_base.specs.Members.{NodeIds}
 use Rattle.mesh_base.specs.Meshes.{Nodes}
 use Rattle.mesh_base.specs.declared.events.Air.{Air}
@@ -10,7 +10,6 @@ use Rattle.mesh_base.specs.declared.events.Effect.{Effect}
 use Rattle.mesh_base.specs.declared.events.Item as items
 use Rattle.mesh_base.specs.declared.events.Took.{Took}
 use Rattle.aodv_model.specs.Cores.{Core}
-use Rattle.aodv_model.specs.Handlers as handlers
 use Rattle.aodv_model.specs.Handlers.{Reaction, turn, took, may_send, send, may_ask, ask}
 use Rattle.aodv_model.specs.Fullness.{turn_full, send_full, ask_full}
 use Rattle.aodv_meaning.specs.Effects.{item_in}
@@ -18,8 +17,7 @@ use Rattle.aodv_handlers.specs.Made.{IsMade}
 use Rattle.aodv_node.specs.Seen.{NodeSeen}
 use Rattle.aodv_node.specs.Turned.{taken_of}
 use Rattle.mesh_model.specs.Worlds as worlds
-use Rattle.mesh_model.specs.Worlds.{World, Event, Copy, WorldEffect, Outcome, Idle, Next, copies, done_by, unless_full}
-use Rattle.mesh_meaning.specs.Answers.{took_in}
+use Rattle.mesh_model.specs.Worlds.{Event}
 use Rattle.mesh_world.specs.declared.act.Unacted.{Unacted}
 use Rattle.mesh_world.specs.declared.act.Unacted.TheVariants as refused
 
@@ -60,28 +58,20 @@ turn_deed mesh range core (front ∷ rest) =
       took = Some (taken_of front (took core item));
     })
 
+-- nothing is taken from the inbox
+abbrev pub sent_deed : NodeSeen → Bool → Option Counter → Reaction → Option Deed
+sent_deed n may full reaction =
+    if may
+    then Some (record { full = full; reaction = reaction; left = n.items; took = None })
+    else None
+
 -- what comes of an act of the node `n`, with the nodes of `range` in range; None if it isn't
 -- enabled
 abbrev pub deed_of : Nodes → NodeIds → NodeSeen → Act → Option Deed
 deed_of mesh range n Turn = turn_deed mesh range n.core n.items
 deed_of mesh range n (Send d) =
-    if may_send n.core d
-    then Some (record {
-      full = send_full n.core range d;
-      reaction = send n.core range d;
-      left = n.items;
-      took = None;
-    })
-    else None
-deed_of mesh range n (Ask d) =
-    if may_ask n.core d
-    then Some (record {
-      full = ask_full n.core;
-      reaction = ask n.core d;
-      left = n.items;
-      took = None;
-    })
-    else None
+    sent_deed n (may_send n.core d) (send_full n.core range d) (send n.core range d)
+deed_of mesh range n (Ask d) = sent_deed n (may_ask n.core d) (ask_full n.core) (ask n.core d)
 
 -- ---- what the code did
 
@@ -113,19 +103,3 @@ IsActed took mesh range act old (Err refused.NoMemory) new out =
 abbrev pub done_of : Option Took → Effect → Air → Done
 done_of (Some t) effect air = done.Taken t effect air
 done_of None effect air = done.Sent effect air
-
--- ---- what it is to a world
-
--- what came of it, by what was taken
-abbrev pub effect_by : Nodes → Option Took → handlers.Effect → List Copy → WorldEffect
-effect_by mesh (Some t) effect flying = worlds.Taken (took_in mesh t) effect flying
-effect_by mesh None effect flying = worlds.Sent effect flying
-
--- the outcome of what comes of an act of node x
-abbrev pub outcome_of : Nodes → World → ℕ → Option Deed → Outcome
-outcome_of mesh w x None = Idle
-outcome_of mesh w x (Some d) =
-    let effect = (d.reaction).effect in
-    unless_full x d.full
-    (Next (done_by w x d.reaction (map (item_in mesh) d.left))
-    (effect_by mesh d.took effect (copies w x effect.cast)))

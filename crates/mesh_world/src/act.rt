@@ -63,17 +63,13 @@ pub(crate) trait Acts: Copy {
 #[derive(Clone, Copy)]
 pub(crate) struct Turn;
 
-/// The node sends the first datum that waits for `dest`.
+/// The node sends the first datum that waits for this destination.
 #[derive(Clone, Copy)]
-pub(crate) struct Send {
-    pub dest: usize,
-}
+pub(crate) struct Send(pub usize);
 
-/// The node asks for a route to `dest`.
+/// The node asks for a route to this destination.
 #[derive(Clone, Copy)]
-pub(crate) struct Ask {
-    pub dest: usize,
-}
+pub(crate) struct Ask(pub usize);
 
 impl Acts for Turn {
     type Taken = Took;
@@ -99,8 +95,6 @@ impl Acts for Turn {
         Done::Taken { took, effect, air }
     }
 
-    #[cold]
-    #[inline(never)]
     fn is_enabled(self, node: &Node) -> bool {
         !node.inbox().is_empty()
     }
@@ -109,13 +103,13 @@ impl Acts for Turn {
 impl Acts for Send {
     type Taken = ();
 
-    ghost act = { λ s. acts.Send s.dest };
+    ghost act = { λ s. acts.Send s.0 };
 
     ghost took = { λ _. None };
 
     #[inline(always)]
     fn of(self, node: &mut Node, mesh: &Mesh, range: &NodeSet, out: &mut Packet) -> Acted<()> {
-        match node.send(mesh, range, self.dest, out) {
+        match node.send(mesh, range, self.0, out) {
             Ok(effect) => Ok(((), effect)),
             Err(SendError::Idle) => Err(Unacted::Idle),
             Err(SendError::Full(field)) => Err(Unacted::Full(field)),
@@ -127,23 +121,21 @@ impl Acts for Send {
         Done::Sent { effect, air }
     }
 
-    #[cold]
-    #[inline(never)]
     fn is_enabled(self, node: &Node) -> bool {
-        node.sendable().has(self.dest)
+        node.sendable().has(self.0)
     }
 }
 
 impl Acts for Ask {
     type Taken = ();
 
-    ghost act = { λ s. acts.Ask s.dest };
+    ghost act = { λ s. acts.Ask s.0 };
 
     ghost took = { λ _. None };
 
     #[inline(always)]
     fn of(self, node: &mut Node, mesh: &Mesh, _range: &NodeSet, out: &mut Packet) -> Acted<()> {
-        match node.ask(mesh, self.dest, out) {
+        match node.ask(mesh, self.0, out) {
             Ok(effect) => Ok(((), effect)),
             Err(AskError::Idle) => Err(Unacted::Idle),
             Err(AskError::Full(field)) => Err(Unacted::Full(field)),
@@ -156,9 +148,7 @@ impl Acts for Ask {
         Done::Sent { effect, air }
     }
 
-    #[cold]
-    #[inline(never)]
     fn is_enabled(self, node: &Node) -> bool {
-        node.askable().has(self.dest)
+        node.askable().has(self.0)
     }
 }

@@ -243,8 +243,8 @@ impl Steps for World {
                 self.parts.give(alloc, node, dest, body, wanted, answer)
             }
             Event::Turn { node } => self.parts.act(node, Turn, out, wanted, answer),
-            Event::Send { node, dest } => self.parts.act(node, Send { dest }, out, wanted, answer),
-            Event::Ask { node, dest } => self.parts.act(node, Ask { dest }, out, wanted, answer),
+            Event::Send { node, dest } => self.parts.act(node, Send(dest), out, wanted, answer),
+            Event::Ask { node, dest } => self.parts.act(node, Ask(dest), out, wanted, answer),
             Event::Link { a, b } => self.parts.link(a, b, wanted, answer),
             Event::Cut { a, b } => self.parts.cut(a, b, wanted, answer),
             Event::Deliver { id } => self.parts.deliver_copy(alloc, id, wanted, answer),
