@@ -48,6 +48,10 @@ use Rattle.mesh_world.specs.Seen.{node_in}
 use Rattle.mesh_world.specs.Kept.{Ready, IsKept, IsKeptNode, world_in}
 use Rattle.mesh_world.specs.Noted.{ready_with}
 use Rattle.mesh_world.proofs.Frames.{Ends, Beside, ends_done, ends_idle, ends_full, ends_no_memory, beside, shown_at, each_get, set_back, noted_beside, later, with_same, roomed, began, node_at}
+use Rattle.std.specs.Vec.{with_item}
+use Rattle.mesh_world.specs.Parts.{AreKept, IsDoneTo}
+use Rattle.mesh_world.specs.declared.parts.Parts.{Parts}
+use Rattle.mesh_world.proofs.Moves.{of_ends, changed}
 use Rattle.mesh_world.proofs.Reactions.{near_is, Acts, Sends, Comes, comes}
 
 -- ---- the node in the world
@@ -251,39 +255,39 @@ steps_after steps refused.Idle = steps + 1
 steps_after steps (refused.Full field) = steps
 steps_after steps refused.NoMemory = steps
 
-pub act_refused_end : {T : Type 0} (seen : T → Option Took) (mesh : Nodes) (nodes : List NodeSeen) (old radio : RadioState) (ready : Ready) (steps x : ℕ) (near : NodeIds) (n new : NodeSeen) (act : Act) (why : Unacted) (out : List ℕ)
-    → IsKept mesh nodes old ready steps → radio ≡ record old { room = radio.room; most = radio.most } → steps < 2 ^ 48 → x < length mesh → n ≡ slice_index_or nodes x n → near ≡ linked_below radio.links x radio.size
-    → IsActed seen mesh near act n (Err why) new out
-    → Ends (event_at x act) mesh nodes old steps (refusal_of x why) (slice_set nodes x new) radio ready (steps_after steps why) out
-act_refused_end seen mesh nodes old radio ready steps x near n new act why out k rooms few l is linked t =
-    began (event_at x act) mesh nodes old radio steps (refusal_of x why) (slice_set nodes x new) radio ready (steps_after steps why) out rooms (by why t)
+pub act_refused : {T : Type 0} (seen : T → Option Took) (old : Parts) (radio : RadioState) (x : ℕ) (near : NodeIds) (n new : NodeSeen) (act : Act) (why : Unacted) (out : List ℕ)
+    → AreKept old → radio ≡ record old.radio { room = radio.room; most = radio.most } → old.steps < 2 ^ 48 → x < length old.mesh → n ≡ slice_index_or (old.nodes).items x n → near ≡ linked_below radio.links x radio.size
+    → IsActed seen old.mesh near act n (Err why) new out → IsDoneTo (event_at x act) old (refusal_of x why) (record (changed old x new radio) { steps = steps_after old.steps why }) out
+act_refused seen old radio x near n new act why out k rooms few l is linked t =
+    of_ends (event_at x act) old (with_item old.nodes x new) radio old.ready (steps_after old.steps why) (refusal_of x why) out
+    (began (event_at x act) old.mesh (old.nodes).items old.radio radio old.steps (refusal_of x why) (slice_set (old.nodes).items x new) radio old.ready (steps_after old.steps why) out rooms (by why t))
   where
-    r : IsKept mesh nodes radio ready steps
-    r = roomed mesh nodes old radio ready steps rooms k
+    r : IsKept old.mesh (old.nodes).items radio old.ready old.steps
+    r = roomed old.mesh (old.nodes).items old.radio radio old.ready old.steps rooms k
 
-    at : slice_get nodes x ≡ Some n
-    at = node_at mesh nodes old ready steps x n k l is
+    at : slice_get (old.nodes).items x ≡ Some n
+    at = node_at old.mesh (old.nodes).items old.radio old.ready old.steps x n k l is
 
-    does : step (world_in mesh nodes radio) (event_at x act) ≡ outcome_of mesh (world_in mesh nodes radio) x (deed_of mesh near n act)
-    does = act_at mesh nodes radio x n near act at (near_is mesh nodes radio ready steps x near r linked)
+    does : step (world_in old.mesh (old.nodes).items radio) (event_at x act) ≡ outcome_of old.mesh (world_in old.mesh (old.nodes).items radio) x (deed_of old.mesh near n act)
+    does = act_at old.mesh (old.nodes).items radio x n near act at (near_is old.mesh (old.nodes).items radio old.ready old.steps x near r linked)
 
-    back : new ≡ n → slice_set nodes x new ≡ nodes
-    back same = set_back nodes x n new at same
+    back : new ≡ n → slice_set (old.nodes).items x new ≡ (old.nodes).items
+    back same = set_back (old.nodes).items x n new at same
 
-    shown : new ≡ n → world_in mesh (slice_set nodes x new) radio ≡ world_in mesh nodes radio
-    shown same = ap (λ (ns : List NodeSeen). world_in mesh ns radio) (back same)
+    shown : new ≡ n → world_in old.mesh (slice_set (old.nodes).items x new) radio ≡ world_in old.mesh (old.nodes).items radio
+    shown same = ap (λ (ns : List NodeSeen). world_in old.mesh ns radio) (back same)
 
-    still : new ≡ n → Beside mesh (slice_set nodes x new) radio ready steps
-    still same = with_same mesh nodes (slice_set nodes x new) radio ready steps (back same) (beside mesh nodes radio ready steps r)
+    still : new ≡ n → Beside old.mesh (slice_set (old.nodes).items x new) radio old.ready old.steps
+    still same = with_same old.mesh (old.nodes).items (slice_set (old.nodes).items x new) radio old.ready old.steps (back same) (beside old.mesh (old.nodes).items radio old.ready old.steps r)
 
-    by : (w : Unacted) → IsActed seen mesh near act n (Err w) new out → Ends (event_at x act) mesh nodes radio steps (refusal_of x w) (slice_set nodes x new) radio ready (steps_after steps w) out
+    by : (w : Unacted) → IsActed seen old.mesh near act n (Err w) new out → Ends (event_at x act) old.mesh (old.nodes).items radio old.steps (refusal_of x w) (slice_set (old.nodes).items x new) radio old.ready (steps_after old.steps w) out
     by refused.Idle t =
-        ends_idle (event_at x act) mesh nodes radio ready steps (slice_set nodes x new) radio out r few (does ∙ ap (outcome_of mesh (world_in mesh nodes radio) x) t.0) (shown t.1)
-        (later mesh (slice_set nodes x new) radio ready steps (still t.1))
+        ends_idle (event_at x act) old.mesh (old.nodes).items radio old.ready old.steps (slice_set (old.nodes).items x new) radio out r few (does ∙ ap (outcome_of old.mesh (world_in old.mesh (old.nodes).items radio) x) t.0) (shown t.1)
+        (later old.mesh (slice_set (old.nodes).items x new) radio old.ready old.steps (still t.1))
     by (refused.Full field) t =
-        ends_full (event_at x act) mesh nodes radio ready steps x field (slice_set nodes x new) radio out r
-        (does ∙ ap (outcome_of mesh (world_in mesh nodes radio) x) t.1 ∙ stops x (t.0).full field _ t.2) (shown t.3) (still t.3)
-    by refused.NoMemory t = ends_no_memory (event_at x act) mesh nodes radio ready steps (slice_set nodes x new) radio out r (shown t.1) (still t.1)
+        ends_full (event_at x act) old.mesh (old.nodes).items radio old.ready old.steps x field (slice_set (old.nodes).items x new) radio out r
+        (does ∙ ap (outcome_of old.mesh (world_in old.mesh (old.nodes).items radio) x) t.1 ∙ stops x (t.0).full field _ t.2) (shown t.3) (still t.3)
+    by refused.NoMemory t = ends_no_memory (event_at x act) old.mesh (old.nodes).items radio old.ready old.steps (slice_set (old.nodes).items x new) radio out r (shown t.1) (still t.1)
 
 -- ---- what the code of a node answers is that of an act
 
