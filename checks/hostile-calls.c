@@ -150,7 +150,7 @@ static void turn(struct known *it) {
     uint32_t near_addrs[8];
     size_t n = some_addrs(near_addrs, 8);
     uint32_t code = aodv_turn(&it->handle, near_addrs, n, &out);
-    uint32_t taken = BIT(AODV_DONE) | BIT(AODV_UNREADABLE) | BIT(AODV_NAMES_STRANGER);
+    uint32_t taken = BIT(AODV_DONE) | BIT(AODV_MALFORMED) | BIT(AODV_NAMES_STRANGER);
     answers(TURN, it, code, it->items > 0 ? taken | full : BIT(AODV_IDLE));
     it->items -= (taken & BIT(code)) != 0;
     look(it, code, true);

@@ -21,7 +21,7 @@
  *
  * Answers. Each call but aodv_version and aodv_free answers one of the codes below, and is done
  * if it answers AODV_DONE. After every other code the router, the outcome, the list, the row and
- * the number are as they were, with one exception: after AODV_UNREADABLE and AODV_NAMES_STRANGER
+ * the number are as they were, with one exception: after AODV_MALFORMED and AODV_NAMES_STRANGER
  * the packet has been taken from the inbox. Memory is asked for in aodv_new, aodv_hear, aodv_give,
  * aodv_turn and aodv_ask alone. */
 #ifndef AODV_H
@@ -50,7 +50,7 @@ enum {
     AODV_IDLE = 1,           /* the inbox is empty, or nothing is to be sent or asked for */
     AODV_STRANGER = 2,       /* the mesh has no such address */
     AODV_OWN = 3,            /* the address is the router's own */
-    AODV_UNREADABLE = 4,     /* the packet can't be read; it is taken */
+    AODV_MALFORMED = 4,      /* the packet can't be read; it is taken */
     AODV_NAMES_STRANGER = 5, /* the packet names an address outside the mesh; it is taken */
     AODV_NO_MEMORY = 6,      /* memory was asked for and not found */
     AODV_HOLDS_NOTHING = 7,  /* the handle holds no router */
@@ -66,6 +66,9 @@ enum {
     AODV_FULL_ID = 17,       /* a request id would go past 4294967295 */
     AODV_NO_ENTRY = 18       /* the table has no entry for the address */
 };
+
+/* the old name of AODV_MALFORMED */
+#define AODV_UNREADABLE AODV_MALFORMED
 
 /* Variants of the protocol. */
 enum {
@@ -161,7 +164,7 @@ uint32_t aodv_give(struct aodv_router *handle, uint32_t dest, const uint8_t *bod
 
 /* Takes the front item of the inbox, and does with it what AODV does. `near_addrs` are the n
  * addresses that a unicast would reach now; those that the mesh doesn't have are passed over.
- * Refused: AODV_HOLDS_NOTHING, AODV_IDLE (the inbox is empty), AODV_UNREADABLE,
+ * Refused: AODV_HOLDS_NOTHING, AODV_IDLE (the inbox is empty), AODV_MALFORMED,
  * AODV_NAMES_STRANGER, AODV_FULL_.., AODV_NO_MEMORY. After the last two the item stays in front. */
 uint32_t aodv_turn(struct aodv_router *handle, const uint32_t *near_addrs, size_t n,
                    struct aodv_outcome *out);

@@ -269,7 +269,7 @@ Router::Turn(Addr from, const Bytes& heard)
     }
     catch (const ::aodv::Refused& why)
     {
-        if (why.code() != AODV_UNREADABLE && why.code() != AODV_NAMES_STRANGER)
+        if (why.code() != AODV_MALFORMED && why.code() != AODV_NAMES_STRANGER)
         {
             throw;
         }

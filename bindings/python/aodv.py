@@ -5,7 +5,7 @@
         outcome = router.turn(near=["10.0.0.2"])
 
 An address is given as anything that ipaddress.IPv4Address takes, and told as an IPv4Address. A call that is refused
-raises Refused; the router is then as it was, but that after UNREADABLE and NAMES_STRANGER the packet is gone from the
+raises Refused; the router is then as it was, but that after MALFORMED and NAMES_STRANGER the packet is gone from the
 inbox. One router is used by one thread at a time. The library is libaodv.so.1 of the file that AODV_LIBRARY names, of
 the repository where this file stands in it, or of the system."""
 import ctypes
@@ -29,7 +29,8 @@ class Code(enum.IntEnum):
     IDLE = 1
     STRANGER = 2
     OWN = 3
-    UNREADABLE = 4
+    MALFORMED = 4
+    UNREADABLE = 4  # the old name of MALFORMED
     NAMES_STRANGER = 5
     NO_MEMORY = 6
     HOLDS_NOTHING = 7
@@ -50,7 +51,7 @@ WORDS = {
     Code.IDLE: "nothing to do",
     Code.STRANGER: "the mesh has no such address",
     Code.OWN: "the address is the router's own",
-    Code.UNREADABLE: "a packet that can't be read",
+    Code.MALFORMED: "a packet that can't be read",
     Code.NAMES_STRANGER: "a packet that names a stranger",
     Code.NO_MEMORY: "no memory",
     Code.HOLDS_NOTHING: "the router is closed",

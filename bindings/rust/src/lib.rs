@@ -9,7 +9,7 @@ use std::net::Ipv4Addr;
 
 mod raw;
 
-/// Why a call is refused. The router is then as it was, but that after `Unreadable` and
+/// Why a call is refused. The router is then as it was, but that after `Malformed` and
 /// `NamesStranger` the packet is gone from the inbox.
 #[derive(Clone, Copy, Debug, PartialEq, Eq)]
 pub enum Refused {
@@ -20,7 +20,7 @@ pub enum Refused {
     /// The address is the router's own.
     Own,
     /// The packet can't be read.
-    Unreadable,
+    Malformed,
     /// The packet names an address outside the mesh.
     NamesStranger,
     /// Memory was asked for and not found.
@@ -46,12 +46,17 @@ pub enum Refused {
 }
 
 impl Refused {
+    /// The old name of `Malformed`.
+    #[deprecated(note = "use `Malformed`")]
+    #[allow(non_upper_case_globals)]
+    pub const Unreadable: Refused = Refused::Malformed;
+
     fn of(code: u32) -> Refused {
         match code {
             1 => Refused::Idle,
             2 => Refused::Stranger,
             3 => Refused::Own,
-            4 => Refused::Unreadable,
+            4 => Refused::Malformed,
             5 => Refused::NamesStranger,
             6 => Refused::NoMemory,
             9 => Refused::Length,
@@ -73,7 +78,7 @@ impl fmt::Display for Refused {
             Refused::Idle => "nothing to do",
             Refused::Stranger => "the mesh has no such address",
             Refused::Own => "the address is the router's own",
-            Refused::Unreadable => "a packet that can't be read",
+            Refused::Malformed => "a packet that can't be read",
             Refused::NamesStranger => "a packet that names a stranger",
             Refused::NoMemory => "no memory",
             Refused::Length => "a datum has 1 to 512 bytes",

@@ -27,13 +27,13 @@ pub record IsHearCall (old : Station) (from : ℕ) (bytes : List ℕ) (code : �
     : Type 0 where
   pub answer : Result (Unit {0}) HearError
   pub heard : IsHeardFrom old from bytes answer new
-  pub told : code ≡ code_of hear_code answer
+  pub coded : code ≡ code_of hear_code answer
 
 pub record IsGiveCall (old : Station) (dest : ℕ) (body : List ℕ) (code : ℕ) (new : Station)
     : Type 0 where
   pub answer : Result (Unit {0}) GiveError
   pub given : IsGivenFor old dest body answer new
-  pub told : code ≡ code_of give_code answer
+  pub coded : code ≡ code_of give_code answer
 
 -- `before` and `after` are the caller's outcome before and after the call
 pub record IsTurnCall (old : Station) (near : List ℕ) (before : Outcome) (code : ℕ) (new : Station)
@@ -41,7 +41,7 @@ pub record IsTurnCall (old : Station) (near : List ℕ) (before : Outcome) (code
   pub answer : Result told.Outcome TurnError
   pub turn : IsTurnOf old near answer new
   pub names : IfOk answer (λ o. NamesTheMesh old.nodes o)
-  pub told : code ≡ code_of turn_code answer
+  pub coded : code ≡ code_of turn_code answer
   pub laid : IsLaid answer before after
 
 pub record IsSendCall (old : Station) (near : List ℕ) (dest : ℕ) (before : Outcome) (code : ℕ)
@@ -49,7 +49,7 @@ pub record IsSendCall (old : Station) (near : List ℕ) (dest : ℕ) (before : O
   pub answer : Result told.Outcome SendError
   pub send : IsSendOf old near dest answer new
   pub names : IfOk answer (λ o. NamesTheMesh old.nodes o)
-  pub told : code ≡ code_of send_code answer
+  pub coded : code ≡ code_of send_code answer
   pub laid : IsLaid answer before after
 
 pub record IsAskCall (old : Station) (dest : ℕ) (before : Outcome) (code : ℕ) (new : Station)
@@ -57,7 +57,7 @@ pub record IsAskCall (old : Station) (dest : ℕ) (before : Outcome) (code : ℕ
   pub answer : Result told.Outcome AskError
   pub ask : IsAskOf old dest answer new
   pub names : IfOk answer (λ o. NamesTheMesh old.nodes o)
-  pub told : code ≡ code_of ask_code answer
+  pub coded : code ≡ code_of ask_code answer
   pub laid : IsLaid answer before after
 
 -- a look at the table's entry for an address
@@ -66,7 +66,7 @@ pub record IsEntryCall (s : Station) (dest : ℕ) (before : Row) (code : ℕ) (a
   pub answer : Result (Option rows.Row) Stranger
   pub entry : IsAnswerAt (index_of s.nodes dest) answer (λ d row.
       TellsRow s.nodes (maps.get ((s.node).core).rt d) row)
-  pub told : code ≡ entry_code answer
+  pub coded : code ≡ entry_code answer
   pub laid : IsRowLaid answer before after
 
 -- a look at how many data wait for an address
@@ -74,7 +74,7 @@ pub record IsWaitingCall (s : Station) (dest before code after : ℕ) : Type 0 w
   pub answer : Result ℕ Stranger
   pub waiting : IsAnswerAt (index_of s.nodes dest) answer (λ d n.
       n ≡ length (bodies_in (maps.get ((s.node).core).store d)))
-  pub told : code ≡ code_of stranger_code answer
+  pub coded : code ≡ code_of stranger_code answer
   pub written : IsWritten answer before after
 
 -- a look at whether an originator's request with this id was seen
@@ -83,5 +83,5 @@ pub record IsSeenCall (s : Station) (originator id : ℕ) (before : Bool) (code 
   pub answer : Result Bool Stranger
   pub seen : IsAnswerAt (index_of s.nodes originator) answer (λ o seen.
       seen ≡ sets.contains ((s.node).core).seen (o, id))
-  pub told : code ≡ code_of stranger_code answer
+  pub coded : code ≡ code_of stranger_code answer
   pub written : IsWritten answer before after

@@ -23,7 +23,7 @@ use Rattle.aodv_router.specs.declared.outcome.Casting.{Casting}
 use Rattle.aodv_router.specs.declared.outcome.Casting.TheVariants as castings
 use Rattle.aodv_router.specs.declared.outcome.Taken.{Taken}
 use Rattle.aodv_router.specs.declared.outcome.Taken.TheVariants as told
-use Rattle.aodv_c.specs.declared.codes.TheConstants.{DONE, IDLE, STRANGER, OWN, UNREADABLE, NAMES_STRANGER, NO_MEMORY, LENGTH, ZERO_NUMBER, TWICE, TOO_MANY, NOT_THERE, FULL_HOPS, FULL_NUMBER, FULL_ID, NO_ENTRY, TOOK_NOTHING, TOOK_OWN, TOOK_STORED, TOOK_DATA, TOOK_REQUEST, TOOK_REPLY, TOOK_ERROR, CAST_NOTHING, CAST_ONE, CAST_MANY, CAST_ALL}
+use Rattle.aodv_c.specs.declared.codes.TheConstants.{DONE, IDLE, STRANGER, OWN, MALFORMED, NAMES_STRANGER, NO_MEMORY, LENGTH, ZERO_NUMBER, TWICE, TOO_MANY, NOT_THERE, FULL_HOPS, FULL_NUMBER, FULL_ID, NO_ENTRY, TOOK_NOTHING, TOOK_OWN, TOOK_STORED, TOOK_DATA, TOOK_REQUEST, TOOK_REPLY, TOOK_ERROR, CAST_NOTHING, CAST_ONE, CAST_MANY, CAST_ALL}
 
 -- ---- what a call answers
 
@@ -56,7 +56,7 @@ give_code gives.NoMemory = NO_MEMORY
 
 abbrev pub turn_code : TurnError → ℕ
 turn_code turns.Idle = IDLE
-turn_code (turns.Unreadable from why) = UNREADABLE
+turn_code (turns.Malformed from why) = MALFORMED
 turn_code (turns.Stranger from who) = NAMES_STRANGER
 turn_code (turns.Full field) = full_code field
 turn_code turns.NoMemory = NO_MEMORY

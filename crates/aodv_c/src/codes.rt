@@ -23,7 +23,7 @@ pub const STRANGER: u32 = 2;
 pub const OWN: u32 = 3;
 
 /// The packet can't be read. It is taken from the inbox.
-pub const UNREADABLE: u32 = 4;
+pub const MALFORMED: u32 = 4;
 
 /// The packet names an address that the mesh doesn't have. It is taken from the inbox.
 pub const NAMES_STRANGER: u32 = 5;
@@ -155,7 +155,7 @@ pub(crate) fn turn_code(why: &TurnError) -> u32
 {
     match why {
         TurnError::Idle => IDLE,
-        TurnError::Unreadable { .. } => UNREADABLE,
+        TurnError::Malformed { .. } => MALFORMED,
         TurnError::Stranger { .. } => NAMES_STRANGER,
         TurnError::Full(field) => full_code(*field),
         TurnError::NoMemory => NO_MEMORY,

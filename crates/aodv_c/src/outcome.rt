@@ -155,7 +155,7 @@ impl Outcome {
 
 /// Lays out the outcome of a turn, if there is one, and returns the number of the answer.
 pub(crate) fn put_turn(answer: &Result<aodv_router::Outcome, TurnError>, out: &mut Outcome) -> u32
-    ensures told { result ≡ code_of turn_code answer.now }
+    ensures coded { result ≡ code_of turn_code answer.now }
     ensures laid { IsLaid answer.now out.old out.new }
 {
     match answer {
@@ -169,7 +169,7 @@ pub(crate) fn put_turn(answer: &Result<aodv_router::Outcome, TurnError>, out: &m
 
 /// Lays out the outcome of a send, if there is one, and returns the number of the answer.
 pub(crate) fn put_send(answer: &Result<aodv_router::Outcome, SendError>, out: &mut Outcome) -> u32
-    ensures told { result ≡ code_of send_code answer.now }
+    ensures coded { result ≡ code_of send_code answer.now }
     ensures laid { IsLaid answer.now out.old out.new }
 {
     match answer {
@@ -183,7 +183,7 @@ pub(crate) fn put_send(answer: &Result<aodv_router::Outcome, SendError>, out: &m
 
 /// Lays out the outcome of a request, if there is one, and returns the number of the answer.
 pub(crate) fn put_ask(answer: &Result<aodv_router::Outcome, AskError>, out: &mut Outcome) -> u32
-    ensures told { result ≡ code_of ask_code answer.now }
+    ensures coded { result ≡ code_of ask_code answer.now }
     ensures laid { IsLaid answer.now out.old out.new }
 {
     match answer {
@@ -216,7 +216,7 @@ impl Row {
 
 /// Lays out an entry, if there is one, and returns the number of the answer.
 pub(crate) fn put_row(answer: &Result<Option<aodv_router::Row>, Stranger>, row: &mut Row) -> u32
-    ensures told { result ≡ entry_code answer.now }
+    ensures coded { result ≡ entry_code answer.now }
     ensures laid { IsRowLaid answer.now row.old row.new }
 {
     match answer {

@@ -21,7 +21,7 @@ use Rattle.aodv_model.proofs.TablesInMesh.{kept_of}
 use Rattle.aodv_wire.specs.RouteError.{AreDestinations}
 use Rattle.aodv_meaning.specs.Sent.{pair_by_address, pairs_of}
 use Rattle.aodv_meaning.proofs.Writings.{destinations}
-use Rattle.aodv_handlers.specs.Parts.{tells, named_dests}
+use Rattle.aodv_handlers.specs.Parts.{is_named, named_dests}
 use Rattle.aodv_handlers.proofs.Lists.{from_index, from_end, empty_union, union_empty, union_assoc, empty_is, is_empty_same, entries_where, any_there}
 use Rattle.aodv_meaning.proofs.Means.{some_of}
 
@@ -68,7 +68,7 @@ joined_all rt dests k all has end =
 -- ---- of what
 
 pub told_of : Nodes → Variant → Table → List (ℕ × ℕ) → List (Addr × ℕ)
-told_of mesh v rt es = map (pair_by_address mesh) (where_key nat_cmp (tells v rt) es)
+told_of mesh v rt es = map (pair_by_address mesh) (where_key nat_cmp (is_named v rt) es)
 
 -- all pairs are those that were taken before index k, and those from there on
 pub record HasTold (mesh : Nodes) (v : Variant) (rt : Table) (dests : Dests) (k : ℕ) (pairs : List (Addr × ℕ)) : Type 0 where
@@ -78,19 +78,19 @@ pub record HasTold (mesh : Nodes) (v : Variant) (rt : Table) (dests : Dests) (k 
 pub told_none : (mesh : Nodes) (v : Variant) (rt : Table) (dests : Dests) (pairs : List (Addr × ℕ)) → pairs ≡ [] → HasTold mesh v rt dests 0 pairs
 told_none mesh v rt dests pairs is = record { whole = ap (λ ps. ps ++ told_of mesh v rt (maps.entries dests)) is; few = let e = ap length is in omega arith }
 
-told_first : (mesh : Nodes) (v : Variant) (rt : Table) (p : ℕ × ℕ) (es : List (ℕ × ℕ)) (b : Bool) → tells v rt p.0 ≡ b → told_of mesh v rt (p ∷ es) ≡ cond b (pair_by_address mesh p ∷ told_of mesh v rt es) (told_of mesh v rt es)
+told_first : (mesh : Nodes) (v : Variant) (rt : Table) (p : ℕ × ℕ) (es : List (ℕ × ℕ)) (b : Bool) → is_named v rt p.0 ≡ b → told_of mesh v rt (p ∷ es) ≡ cond b (pair_by_address mesh p ∷ told_of mesh v rt es) (told_of mesh v rt es)
 unfolding told_of
 told_first mesh v rt p es true is = rw is refl
 told_first mesh v rt p es false is = rw is refl
 
-told_step : (mesh : Nodes) (v : Variant) (rt : Table) (dests : Dests) (k : ℕ) (p : ℕ × ℕ) (b : Bool) → slice_get (maps.entries dests) k ≡ Some p → tells v rt p.0 ≡ b → told_of mesh v rt (drop k (maps.entries dests)) ≡ cond b (pair_by_address mesh p ∷ told_of mesh v rt (drop (k + 1) (maps.entries dests))) (told_of mesh v rt (drop (k + 1) (maps.entries dests)))
+told_step : (mesh : Nodes) (v : Variant) (rt : Table) (dests : Dests) (k : ℕ) (p : ℕ × ℕ) (b : Bool) → slice_get (maps.entries dests) k ≡ Some p → is_named v rt p.0 ≡ b → told_of mesh v rt (drop k (maps.entries dests)) ≡ cond b (pair_by_address mesh p ∷ told_of mesh v rt (drop (k + 1) (maps.entries dests))) (told_of mesh v rt (drop (k + 1) (maps.entries dests)))
 told_step mesh v rt dests k p b is has =
     let up : suc k ≡ k + 1 = omega arith in
     ap (told_of mesh v rt) (from_index (maps.entries dests) k p is)
     ∙ told_first mesh v rt p (drop (suc k) (maps.entries dests)) b has
     ∙ ap (λ n. cond b (pair_by_address mesh p ∷ told_of mesh v rt (drop n (maps.entries dests))) (told_of mesh v rt (drop n (maps.entries dests)))) up
 
-pub told_more : (mesh : Nodes) (v : Variant) (rt : Table) (dests : Dests) (k : ℕ) (pairs pairs' : List (Addr × ℕ)) (p : ℕ × ℕ) (x : Addr × ℕ) → HasTold mesh v rt dests k pairs → slice_get (maps.entries dests) k ≡ Some p → tells v rt p.0 ≡ true → x ≡ pair_by_address mesh p → pairs' ≡ pairs ++ x ∷ [] → HasTold mesh v rt dests (k + 1) pairs'
+pub told_more : (mesh : Nodes) (v : Variant) (rt : Table) (dests : Dests) (k : ℕ) (pairs pairs' : List (Addr × ℕ)) (p : ℕ × ℕ) (x : Addr × ℕ) → HasTold mesh v rt dests k pairs → slice_get (maps.entries dests) k ≡ Some p → is_named v rt p.0 ≡ true → x ≡ pair_by_address mesh p → pairs' ≡ pairs ++ x ∷ [] → HasTold mesh v rt dests (k + 1) pairs'
 told_more mesh v rt dests k pairs pairs' p x has is some x_is next =
     let after = told_of mesh v rt (drop (k + 1) (maps.entries dests)) in
     let few : length pairs ≤ k = has.few in
@@ -103,7 +103,7 @@ told_more mesh v rt dests k pairs pairs' p x has is some x_is next =
       few = omega arith;
     }
 
-pub told_same : (mesh : Nodes) (v : Variant) (rt : Table) (dests : Dests) (k : ℕ) (pairs : List (Addr × ℕ)) (p : ℕ × ℕ) → HasTold mesh v rt dests k pairs → slice_get (maps.entries dests) k ≡ Some p → tells v rt p.0 ≡ false → HasTold mesh v rt dests (k + 1) pairs
+pub told_same : (mesh : Nodes) (v : Variant) (rt : Table) (dests : Dests) (k : ℕ) (pairs : List (Addr × ℕ)) (p : ℕ × ℕ) → HasTold mesh v rt dests k pairs → slice_get (maps.entries dests) k ≡ Some p → is_named v rt p.0 ≡ false → HasTold mesh v rt dests (k + 1) pairs
 told_same mesh v rt dests k pairs p has is none =
     let few : length pairs ≤ k = has.few in
     record { whole = ap (λ ps. pairs ++ ps) (sym (told_step mesh v rt dests k p false is none)) ∙ has.whole; few = omega arith }
@@ -117,7 +117,7 @@ all_kept [] = refl
 all_kept (e ∷ es) = ap (λ (l : List (ℕ × ℕ)). e ∷ l) (all_kept es)
 
 -- the pairs of the destinations that are told of
-told_entries : (v : Variant) (rt : Table) (dests : Dests) → where_key nat_cmp (tells v rt) (maps.entries dests) ≡ maps.entries (named_dests v rt dests)
+told_entries : (v : Variant) (rt : Table) (dests : Dests) → where_key nat_cmp (is_named v rt) (maps.entries dests) ≡ maps.entries (named_dests v rt dests)
 unfolding with_precs
 told_entries Base rt dests = sym (entries_where dests (λ d. not (is_empty (precs rt d))))
 told_entries Number rt dests = sym (entries_where dests (λ d. not (is_empty (precs rt d))))

@@ -9,8 +9,8 @@ use Rattle.aodv_handlers.specs.declared.messages.Reply.{Reply}
 use Rattle.aodv_handlers.specs.Shown.{reply_of}
 
 -- a route error names d: always in the variant `Error`, and otherwise if d has precursors
-abbrev pub tells : Variant → Table → ℕ → Bool
-tells v rt d = is_error v || not (is_empty (precs rt d))
+abbrev pub is_named : Variant → Table → ℕ → Bool
+is_named v rt d = is_error v || not (is_empty (precs rt d))
 
 -- those of these destinations that a route error names
 abbrev pub named_dests : Variant → Table → Dests → Dests

@@ -9,7 +9,7 @@ ghost use Rattle.aodv_meaning.specs.Sent.{IsSent, IsPacket};
 ghost use Rattle.aodv_handlers.specs.Shown.{core_of, IsInOrder};
 ghost use Rattle.aodv_meaning.specs.Effects.{cast_of};
 ghost use Rattle.aodv_handlers.specs.Made.{Breaks};
-ghost use Rattle.aodv_handlers.specs.Parts.{tells, named_dests};
+ghost use Rattle.aodv_handlers.specs.Parts.{is_named, named_dests};
 
 use crate::cores::Core;
 use aodv_model::Dests;
@@ -57,9 +57,9 @@ pub(crate) fn is_broadcast(variant: Variant) -> bool
 }
 
 // Whether a route error names d, if d's route becomes invalid.
-fn is_told<T: Table>(variant: Variant, table: &T, d: usize) -> bool
+fn is_named<T: Table>(variant: Variant, table: &T, d: usize) -> bool
     requires { d < T.nodes table.now }
-    ensures { result ≡ tells variant (T.entries table.now) d }
+    ensures { result ≡ is_named variant (T.entries table.now) d }
 {
     is_broadcast(variant) || !is_empty(&precursors(table, d))
 }
@@ -78,7 +78,7 @@ fn write_error<T: Table>(variant: Variant, table: &T, mesh: &Mesh, dests: &Dests
     let mut pairs: ArrayVec<(Addr, u32), MOST_NODES> = ArrayVec::new();
     for k in 0..dests.len() {
         let (d, number) = dests.pair(k);
-        if is_told(variant, table, d) {
+        if is_named(variant, table, d) {
             pairs.push((mesh.at(d), number));
         }
     }

@@ -105,7 +105,7 @@ abbrev pub IsTurn : Nodes → NodeIds → NodeSeen → Result done.TurnDone Turn
     → Type 0
 IsTurn mesh range old (Ok d) new out = IsTaken mesh range old d new out
 IsTurn mesh range old (Err errors.Idle) new out = (old.items ≡ []) × (new ≡ old)
-IsTurn mesh range old (Err (errors.Unreadable from why)) new out =
+IsTurn mesh range old (Err (errors.Malformed from why)) new out =
     (bytes : List ℕ) × (refusal bytes ≡ Some why) × IsDropped old from bytes new
 IsTurn mesh range old (Err (errors.Stranger from who)) new out =
     (bytes : List ℕ) × (refusal bytes ≡ None) × (stranger mesh (message_in_fields bytes) ≡ Some who)

@@ -20,7 +20,7 @@ pub enum TurnError {
     Idle,
     /// The bytes from that node encode no message. A turn takes them from the inbox.
     #[error("a packet that can't be read")]
-    Unreadable { from: usize, why: WireError },
+    Malformed { from: usize, why: WireError },
     /// The message from that node names an address outside the mesh; `who` is the first in the
     /// packet's order. A turn takes the packet from the inbox.
     #[error("a packet that names a stranger")]

@@ -78,9 +78,9 @@ pub(crate) fn take_turn<T: Table>(
                     }),
                     _ => unreachable!(),
                 },
-                Err(TurnError::Unreadable { from, why }) => {
+                Err(TurnError::Malformed { from, why }) => {
                     inbox.pop();
-                    Err(TurnError::Unreadable { from, why })
+                    Err(TurnError::Malformed { from, why })
                 }
                 Err(TurnError::Stranger { from, who }) => {
                     inbox.pop();

@@ -64,7 +64,7 @@ pub enum TurnError {
     Idle,
     /// The bytes from that address encode no message. They are taken from the inbox.
     #[error("a packet that can't be read")]
-    Unreadable { from: u32, why: WireError },
+    Malformed { from: u32, why: WireError },
     /// The message from that address names an address outside the mesh; `who` is the first in the
     /// packet's order. The packet is taken from the inbox.
     #[error("a packet that names a stranger")]

@@ -73,7 +73,7 @@ impl Bytes {
     /// An equal list that takes no memory. None if it is longer than 32 bytes. Bytes that are kept
     /// in the list itself are copied with their whole array, however many they are.
     #[inline]
-    pub fn again(&self) -> Option<Bytes>
+    pub fn clone_inline(&self) -> Option<Bytes>
         ensures value { IfSome result (λ s. s ≡ self.now) }
         ensures when { IsSome result ↔ (length self.now ≤ 32) }
     {

@@ -22,8 +22,8 @@ pub use events::{
     Air, Cast, Counter, Done, Effect, Event, Flying, FlyingView, Item, Kind, Took, Variant,
 };
 pub use limits::{
-    LINE_CAPACITY, LONGEST_DATUM, LONGEST_INPUT, LONGEST_LINE, LONGEST_PACKET, MOST_EVENTS,
-    MOST_NODES,
+    ADDRESS_WIDTH, LINE_CAPACITY, LONGEST_DATUM, LONGEST_INPUT, LONGEST_LINE, LONGEST_PACKET,
+    MOST_EVENTS, MOST_NODES, NUMBER_WIDTH,
 };
 pub use line_buf::LineBuf;
 pub use mesh::{Mesh, MeshError};

@@ -20,3 +20,9 @@ pub const MOST_EVENTS: u64 = 1_000_000;
 
 /// The most bytes of a line that is put together before it is written.
 pub const LINE_CAPACITY: usize = 8192;
+
+/// The most bytes of a written address: four numbers of three digits, and three dots.
+pub const ADDRESS_WIDTH: usize = 4 * 3 + 3;
+
+/// The most bytes of a written number of 64 bits.
+pub const NUMBER_WIDTH: usize = 20;

@@ -5,7 +5,7 @@ ghost use Rattle.mesh_base.specs.Addresses.{address_of, dotted_decimal};
 ghost use Rattle.mesh_base.specs.Meshes.{Nodes, IsMesh, addr_at, first_at, index_of, index_in, with_node};
 
 use crate::addr::Addr;
-use crate::limits::{LINE_CAPACITY, MOST_NODES};
+use crate::limits::{ADDRESS_WIDTH, LINE_CAPACITY, MOST_NODES};
 use crate::line_buf::LineBuf;
 use crate::octets::Stem;
 use arrayvec::ArrayVec;
@@ -103,9 +103,9 @@ impl Mesh {
     #[inline(always)]
     pub fn push_name(&self, i: usize, out: &mut LineBuf)
         requires node { i < length self.now }
-        requires room { length out.old + 15 ≤ LINE_CAPACITY }
+        requires room { length out.old + ADDRESS_WIDTH ≤ LINE_CAPACITY }
         ensures text { out.new ≡ out.old ++ dotted_decimal (addr_at self.now i) }
-        ensures length { length out.new ≤ length out.old + 15 }
+        ensures length { length out.new ≤ length out.old + ADDRESS_WIDTH }
     {
         self.stem.write(self.at(i), out);
     }

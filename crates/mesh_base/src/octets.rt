@@ -7,7 +7,7 @@ ghost use Rattle.mesh_base.specs.Addresses.{address_of, dotted_decimal};
 ghost use Rattle.mesh_base.specs.Stems.{stem_of, IsStem};
 
 use crate::addr::{Addr, octet};
-use crate::limits::LINE_CAPACITY;
+use crate::limits::{ADDRESS_WIDTH, LINE_CAPACITY};
 use crate::line_buf::LineBuf;
 use crate::text::are_equal;
 
@@ -100,9 +100,9 @@ fn push_octet(out: &mut LineBuf, n: u32)
 
 /// Appends an address in its written form: at most 15 bytes.
 pub fn write_dotted(a: Addr, out: &mut LineBuf)
-    requires { length out.old + 15 ≤ LINE_CAPACITY }
+    requires { length out.old + ADDRESS_WIDTH ≤ LINE_CAPACITY }
     ensures text { out.new ≡ out.old ++ dotted_decimal a.0 }
-    ensures length { length out.new ≤ length out.old + 15 }
+    ensures length { length out.new ≤ length out.old + ADDRESS_WIDTH }
 {
     push_octet_dot(out, a.0 / 16777216);
     push_octet_dot(out, a.0 / 65536 % 256);
@@ -181,9 +181,9 @@ impl Stem {
     /// copied whole.
     #[inline(always)]
     pub(crate) fn write(&self, a: Addr, out: &mut LineBuf)
-        requires { length out.old + 15 ≤ LINE_CAPACITY }
+        requires { length out.old + ADDRESS_WIDTH ≤ LINE_CAPACITY }
         ensures text { out.new ≡ out.old ++ dotted_decimal a.0 }
-        ensures length { length out.new ≤ length out.old + 15 }
+        ensures length { length out.new ≤ length out.old + ADDRESS_WIDTH }
     {
         if a.0 / 256 == self.high {
             out.push_six_to_twelve(&self.cells, self.width);

@@ -4,7 +4,7 @@ ghost use Rattle.std.specs.Fmt.{decimal};
 ghost use Rattle.mesh_base.specs.Parts.{parts, rest_parts};
 ghost use Rattle.mesh_base.specs.Numbers as numbers;
 
-use crate::limits::{LINE_CAPACITY, LONGEST_PACKET};
+use crate::limits::{LINE_CAPACITY, LONGEST_PACKET, NUMBER_WIDTH};
 use crate::line_buf::LineBuf;
 use arrayvec::ArrayVec;
 
@@ -178,9 +178,9 @@ pub fn push_decimal(out: &mut LineBuf, n: u64)
 /// Appends a number in decimal digits: at most 20 bytes.
 #[tactic(auto, using(crate::proofs::NumberLaws::at_most_twenty))]
 pub fn push_number(out: &mut LineBuf, n: u64)
-    requires { length out.old + 20 ≤ LINE_CAPACITY }
+    requires { length out.old + NUMBER_WIDTH ≤ LINE_CAPACITY }
     ensures text { out.new ≡ out.old ++ decimal n }
-    ensures length { length out.new ≤ length out.old + 20 }
+    ensures length { length out.new ≤ length out.old + NUMBER_WIDTH }
 {
     push_decimal(out, n);
 }

@@ -30,8 +30,8 @@ fn do_events<O: Sink>(
 ) -> Result<u32, Stop<'static>>
     requires started { is_some at.old.world ≡ true }
     requires few { at.old.steps + count < most_steps }
-    ensures ran { let told = watched_events below at.old (events_chosen count at.old) in
-        IsEventsRun true at.old told at.new (O.held out.old) (O.held out.new) result }
+    ensures ran { let watched = watched_events below at.old (events_chosen count at.old) in
+        IsEventsRun true at.old watched at.new (O.held out.old) (O.held out.new) result }
     ensures did { IfOk result (λ did. did ≡ length (events_chosen count at.old)) }
     ensures lines { OnOk result (at.new.lines ≡ at.old.lines) }
     ensures cause { HasStopCause (O.faults out.old) (O.faults out.new) result }

@@ -21,7 +21,7 @@ fn run_as<F: Form, I: Source, O: Sink>(
     input: &mut I,
     out: &mut O,
 ) -> Status
-    ensures told { IfSome (I.left input.old) (λ bytes. IsRun F.below variant bytes
+    ensures known { IfSome (I.left input.old) (λ bytes. IsRun F.below variant bytes
         (I.left input.new) (O.held out.old) (O.held out.new) result) }
     ensures end { result ≡ Status.Done → IsAtEnd (I.left input.new) }
     ensures read { HasSourceCause (I.faults input.old) (I.faults input.new) result }
@@ -69,7 +69,7 @@ pub fn run<I: Source, O: Sink>(
     // changed. After each line of that run, and after each event of the next, the world is that of
     // the run without blocks, to which its events so far lead, and in no such world does a
     // destination have a loop.
-    ensures told { IfSome (I.left input.old) (λ bytes. IsRun below variant bytes
+    ensures known { IfSome (I.left input.old) (λ bytes. IsRun below variant bytes
         (I.left input.new) (O.held out.old) (O.held out.new) result) }
 
     // Done comes only if the input was read to its end.

@@ -28,7 +28,7 @@ use Rattle.mesh_lines.specs.declared.form.Field.TheVariants.{Address}
 use Rattle.mesh_lines.specs.Belows.{copy_words}
 use Rattle.mesh_lines.specs.Forms.{is_body}
 use Rattle.mesh_lines.specs.Lines.{is_taken_kind, address_in}
-use Rattle.mesh_capture.specs.Copies.{Flying, Reading, no_frame, copy_in, told_if, after_copy, with_copy, doubled_copy, after_end, end_outcome, effect_below}
+use Rattle.mesh_capture.specs.Copies.{Flying, Reading, no_frame, copy_in, checked_if, after_copy, with_copy, doubled_copy, after_end, end_outcome, effect_below}
 use Rattle.mesh_capture.specs.Runs.{copy_frame}
 use Rattle.mesh_capture.proofs.EventLines.{ends_read, one_is, text_read}
 use Rattle.mesh_capture.proofs.Flights.{copy_found, absent, joined, left}
@@ -76,7 +76,7 @@ module _ (mesh : Nodes) (is : IsMesh mesh) where
       reads_effect mesh a a (join_with_byte 32 (codes "took" ∷ kind ∷ name_of mesh x ∷ [])) (codes "took") (kind ∷ name_of mesh x ∷ []) None
       (clean_append kind (32 ∷ name_of mesh x) clean (name_clean mesh x))
       (words_apart (codes "took") (kind ∷ name_of mesh x ∷ []) (word_lacks 32 (codes "took") refl, (word_lacks 32 kind whole, (name_lacks 32 mesh x (omega arith) is, tt))))
-      (λ k. ap (λ b. told_if b (reading_of mesh a k)) (and_from (is_taken_kind kind) (is_some (address_in (name_of mesh x ∷ []))) known (is_name mesh x is)))
+      (λ k. ap (λ b. checked_if b (reading_of mesh a k)) (and_from (is_taken_kind kind) (is_some (address_in (name_of mesh x ∷ []))) known (is_name mesh x is)))
 
   pub took_reads : (cs : List Copy) (n node : ℕ) (x : ℕ) (took : Took) → Reads mesh (stand cs n (below.Casts node None)) (took_text mesh x took) [] (stand cs n (below.Casts node None))
   took_reads cs n node x (Own body) = took_line cs n node None (codes "new") x refl refl refl
@@ -109,7 +109,7 @@ module _ (mesh : Nodes) (is : IsMesh mesh) where
       let shown : List ℕ = flat_map shown_byte body in
       reads_effect mesh a a (codes "delivered " ++ name_of mesh o ++ 32 ∷ name_of mesh d ++ 32 ∷ shown) (codes "delivered") (name_of mesh o ∷ name_of mesh d ∷ parts 32 shown) None
       (data_clean o d body) (data_words (codes "delivered") shown o d (word_lacks 32 (codes "delivered") refl))
-      (λ k. ap (λ b. told_if b (reading_of mesh a k)) (text_read mesh o d shown is_body is (text_shown body text)))
+      (λ k. ap (λ b. checked_if b (reading_of mesh a k)) (text_read mesh o d shown is_body is (text_shown body text)))
 
   pub dropped_reads : (cs : List Copy) (n node : ℕ) (p : Option (List ℕ)) (o d : ℕ) (body : Body) → is_text body ≡ true
       → Reads mesh (stand cs n (below.Casts node p)) (datum_text (codes "  dropped ") mesh o d body) [] (stand cs n (below.Casts node p))
@@ -118,7 +118,7 @@ module _ (mesh : Nodes) (is : IsMesh mesh) where
       let shown : List ℕ = flat_map shown_byte body in
       reads_effect mesh a a (codes "dropped " ++ name_of mesh o ++ 32 ∷ name_of mesh d ++ 32 ∷ shown) (codes "dropped") (name_of mesh o ∷ name_of mesh d ∷ parts 32 shown) None
       (data_clean o d body) (data_words (codes "dropped") shown o d (word_lacks 32 (codes "dropped") refl))
-      (λ k. ap (λ b. told_if b (reading_of mesh a k)) (text_read mesh o d shown is_body is (text_shown body text)))
+      (λ k. ap (λ b. checked_if b (reading_of mesh a k)) (text_read mesh o d shown is_body is (text_shown body text)))
 
   pub lost_datum : (cs : List Copy) (n id : ℕ) (o d : ℕ) (body : Body) → is_text body ≡ true
       → Reads mesh (stand cs n (below.Loses id)) (datum_text (codes "  dropped ") mesh o d body) [] (stand cs n (below.Loses id))
@@ -127,7 +127,7 @@ module _ (mesh : Nodes) (is : IsMesh mesh) where
       let shown : List ℕ = flat_map shown_byte body in
       reads_effect mesh a a (codes "dropped " ++ name_of mesh o ++ 32 ∷ name_of mesh d ++ 32 ∷ shown) (codes "dropped") (name_of mesh o ∷ name_of mesh d ∷ parts 32 shown) None
       (data_clean o d body) (data_words (codes "dropped") shown o d (word_lacks 32 (codes "dropped") refl))
-      (λ k. ap (λ b. told_if b (reading_of mesh a k)) (text_read mesh o d shown is_body is (text_shown body text)))
+      (λ k. ap (λ b. checked_if b (reading_of mesh a k)) (text_read mesh o d shown is_body is (text_shown body text)))
 
   -- ---- a failed unicast
 
@@ -137,7 +137,7 @@ module _ (mesh : Nodes) (is : IsMesh mesh) where
       let a : Stand = stand cs n (below.Casts node None) in
       reads_effect mesh a a (codes "broken " ++ name_of mesh y) (codes "broken") (name_of mesh y ∷ []) None (name_clean mesh y)
       (words_apart (codes "broken") (name_of mesh y ∷ []) (word_lacks 32 (codes "broken") refl, (name_lacks 32 mesh y (omega arith) is, tt)))
-      (λ k. ap (λ b. told_if b (reading_of mesh a k)) (one_is Address (name_of mesh y) (is_name mesh y is)))
+      (λ k. ap (λ b. checked_if b (reading_of mesh a k)) (one_is Address (name_of mesh y) (is_name mesh y is)))
 
   -- ---- copies
 

@@ -33,7 +33,7 @@ use Rattle.mesh_lines.specs.declared.form.Field.TheVariants.{Address, UpTo, Posi
 use Rattle.mesh_lines.specs.declared.quiet.TheConstants.{MOST_HOPS}
 use Rattle.mesh_lines.specs.Forms.{are, fits}
 use Rattle.mesh_lines.specs.Lines.{number}
-use Rattle.mesh_capture.specs.Copies.{told_if}
+use Rattle.mesh_capture.specs.Copies.{checked_if}
 use Rattle.mesh_capture.proofs.Effects.{stand}
 use Rattle.mesh_capture.proofs.EventLines.{one_is, two_are, number_fits, positive_fits}
 use Rattle.mesh_capture.proofs.Groups.{members_up, either_read, group_lacks}
@@ -89,14 +89,14 @@ module _ (mesh : Nodes) (is : IsMesh mesh) (cs : List Copy) (n : ℕ) where
   sn_reads sn some few =
       reads_effect mesh here here (codes "sn " ++ decimal sn) (codes "sn") (decimal sn ∷ []) None (decimal_clean sn)
       (words_apart (codes "sn") (decimal sn ∷ []) (word_lacks 32 (codes "sn") refl, (number_lacks 32 sn (omega arith) (omega arith), tt)))
-      (λ k. ap (λ b. told_if b (reading_of mesh here k)) (one_is (Positive greatest_first) (decimal sn) (positive_fits greatest_first sn some few (omega arith))))
+      (λ k. ap (λ b. checked_if b (reading_of mesh here k)) (one_is (Positive greatest_first) (decimal sn) (positive_fits greatest_first sn some few (omega arith))))
 
   inbox_reads : (count : ℕ) → count ≤ greatest_id → Reads mesh here (number_line (codes "inbox") count) [] here
   unfolding number_line
   inbox_reads count few =
       reads_effect mesh here here (codes "inbox " ++ decimal count) (codes "inbox") (decimal count ∷ []) None (decimal_clean count)
       (words_apart (codes "inbox") (decimal count ∷ []) (word_lacks 32 (codes "inbox") refl, (number_lacks 32 count (omega arith) few, tt)))
-      (λ k. ap (λ b. told_if b (reading_of mesh here k)) (one_is number (decimal count) (number_fits greatest_id count few (omega arith))))
+      (λ k. ap (λ b. checked_if b (reading_of mesh here k)) (one_is number (decimal count) (number_fits greatest_id count few (omega arith))))
 
   -- ---- the requests that it has seen
 
@@ -106,7 +106,7 @@ module _ (mesh : Nodes) (is : IsMesh mesh) (cs : List Copy) (n : ℕ) where
       reads_effect mesh here here (codes "asked " ++ name_of mesh o ++ 32 ∷ decimal id) (codes "asked") (name_of mesh o ∷ decimal id ∷ []) None
       (clean_append (name_of mesh o) (32 ∷ decimal id) (name_clean mesh o) (decimal_clean id))
       (words_apart (codes "asked") (name_of mesh o ∷ decimal id ∷ []) (word_lacks 32 (codes "asked") refl, (name_lacks 32 mesh o (omega arith) is, (number_lacks 32 id (omega arith) (omega arith), tt))))
-      (λ k. ap (λ b. told_if b (reading_of mesh here k)) (two_are Address (UpTo greatest_first) (name_of mesh o) (decimal id) (is_name mesh o is) (number_fits greatest_first id few (omega arith))))
+      (λ k. ap (λ b. checked_if b (reading_of mesh here k)) (two_are Address (UpTo greatest_first) (name_of mesh o) (decimal id) (is_name mesh o is) (number_fits greatest_first id few (omega arith))))
 
   seen_reads : (seen : SeenRequests) → ((p : ℕ × ℕ) → sets.contains seen p ≡ true → p.1 ≤ greatest_first) → Reads mesh here (asked_text mesh seen) [] here
   unfolding asked_text
@@ -163,7 +163,7 @@ module _ (mesh : Nodes) (is : IsMesh mesh) (cs : List Copy) (n : ℕ) where
           word_lacks 32 (codes "entry") refl,
           (name_lacks 32 mesh d (omega arith) is, (number_lacks 32 e.dsn (omega arith) (omega arith), (known_word, (flag_word, (number_lacks 32 e.hops (omega arith) (omega arith), (name_lacks 32 mesh e.next (omega arith) is, (group_lacks mesh is e.pre, tt))))))),
         ))
-        (λ k. ap (λ b. told_if b (reading_of mesh here k)) (entry_words known flag knows flags))
+        (λ k. ap (λ b. checked_if b (reading_of mesh here k)) (entry_words known flag knows flags))
 
     entry_by : (known : Known) (flag : Flag)
         → Reads mesh here (line (codes "  entry " ++ name_of mesh d ++ 32 ∷ decimal e.dsn ++ known_text known ++ flag_text flag ++ decimal e.hops ++ 32 ∷ name_of mesh e.next ++ 32 ∷ set_text mesh e.pre)) [] here
@@ -190,7 +190,7 @@ module _ (mesh : Nodes) (is : IsMesh mesh) (cs : List Copy) (n : ℕ) where
       (clean_append (name_of mesh d ++ (32 ∷ req ++ 32 ∷ [])) (decimal count) (clean_append (name_of mesh d) (32 ∷ req ++ 32 ∷ []) (name_clean mesh d) (clean_append req (32 ∷ []) clean refl)) (decimal_clean count))
       (ap (λ t. parts 32 (codes "waits " ++ t)) (waits_texts (name_of mesh d) req (decimal count))
       ∙ words_apart (codes "waits") (name_of mesh d ∷ req ∷ decimal count ∷ []) (word_lacks 32 (codes "waits") refl, (name_lacks 32 mesh d (omega arith) is, (word, (number_lacks 32 count (omega arith) few, tt)))))
-      (λ k. ap (λ b. told_if b (reading_of mesh here k))
+      (λ k. ap (λ b. checked_if b (reading_of mesh here k))
       (and_from (fits Address (name_of mesh d)) _ (is_name mesh d is)
       (two_are Request (Positive greatest_id) req (decimal count) known (positive_fits greatest_id count some few (omega arith)))))
 

@@ -180,7 +180,7 @@ module _ (mesh : Nodes) where
   abbrev pub AreChanges : List Event → Type 0
   AreChanges es = AllByRecursion IsChange es
 
-  change_is : (due stands : Bool) (x y : ℕ) → x < length mesh → y < length mesh → x ≢ y → AreChanges (change due stands x y)
+  change_is : (in_reach stands : Bool) (x y : ℕ) → x < length mesh → y < length mesh → x ≢ y → AreChanges (change in_reach stands x y)
   change_is true true x y first second apart = tt
   change_is false false x y first second apart = tt
   change_is true false x y first second apart = ((omega arith, omega arith, λ same. apart (omega arith)), tt)

@@ -21,7 +21,7 @@ use Rattle.mesh_lines.specs.declared.form.Field.TheVariants.{Address}
 use Rattle.mesh_lines.specs.Forms.{are}
 use Rattle.mesh_lines.specs.Lines.{number, ends_of}
 use Rattle.mesh_capture.specs.Copies as copies
-use Rattle.mesh_capture.specs.Copies.{Reading, told_if, copy_in, shown_as, shown_copy, is_same_copy, after_shown, with_shown}
+use Rattle.mesh_capture.specs.Copies.{Reading, checked_if, copy_in, shown_as, shown_copy, is_same_copy, after_shown, with_shown}
 use Rattle.mesh_capture.proofs.Effects.{stand}
 use Rattle.mesh_capture.proofs.EventLines.{ends_read, one_is, two_are, number_fits}
 use Rattle.mesh_capture.proofs.Flights.{copy_found, numbers_end}
@@ -52,7 +52,7 @@ module _ (mesh : Nodes) (is : IsMesh mesh) where
       let a : Stand = stand cs n below.Route in
       reads_effect mesh a a (codes "arrived " ++ decimal hops) (codes "arrived") (decimal hops ∷ []) None (decimal_clean hops)
       (words_apart (codes "arrived") (decimal hops ∷ []) (word_lacks 32 (codes "arrived") refl, (number_lacks 32 hops (omega arith) few, tt)))
-      (λ k. ap (λ b. told_if b (reading_of mesh a k)) (one_is number (decimal hops) (number_fits greatest_id hops few (omega arith))))
+      (λ k. ap (λ b. checked_if b (reading_of mesh a k)) (one_is number (decimal hops) (number_fits greatest_id hops few (omega arith))))
 
   stuck_reads : (cs : List Copy) (n at hops : ℕ) → hops ≤ greatest_id → Reads mesh (stand cs n below.Route) (stuck_line mesh at hops) [] (stand cs n below.Route)
   unfolding stuck_line
@@ -61,7 +61,7 @@ module _ (mesh : Nodes) (is : IsMesh mesh) where
       reads_effect mesh a a (codes "stuck " ++ name_of mesh at ++ 32 ∷ decimal hops) (codes "stuck") (name_of mesh at ∷ decimal hops ∷ []) None
       (clean_append (name_of mesh at) (32 ∷ decimal hops) (name_clean mesh at) (decimal_clean hops))
       (words_apart (codes "stuck") (name_of mesh at ∷ decimal hops ∷ []) (word_lacks 32 (codes "stuck") refl, (name_lacks 32 mesh at (omega arith) is, (number_lacks 32 hops (omega arith) few, tt))))
-      (λ k. ap (λ b. told_if b (reading_of mesh a k)) (two_are Address number (name_of mesh at) (decimal hops) (is_name mesh at is) (number_fits greatest_id hops few (omega arith))))
+      (λ k. ap (λ b. checked_if b (reading_of mesh a k)) (two_are Address number (name_of mesh at) (decimal hops) (is_name mesh at is) (number_fits greatest_id hops few (omega arith))))
 
   pub end_reads : (cs : List Copy) (n : ℕ) (end : End) → hops_of end ≤ greatest_id → Reads mesh (stand cs n below.Route) (end_text mesh end) [] (stand cs n below.Route)
   end_reads cs n (Arrived hops) few = arrived_reads cs n hops few
@@ -98,7 +98,7 @@ module _ (mesh : Nodes) (is : IsMesh mesh) where
       (ap (λ t. parts 32 (codes "copy " ++ t)) (sym (three_texts (decimal c.id) (name_of mesh c.from) (name_of mesh c.to) (hex bytes)))
       ∙ words_apart (codes "copy") (decimal c.id ∷ name_of mesh c.from ∷ name_of mesh c.to ∷ hex bytes ∷ [])
       (word_lacks 32 (codes "copy") refl, (number_lacks 32 c.id (omega arith) le, (name_lacks 32 mesh c.from (omega arith) is, (name_lacks 32 mesh c.to (omega arith) is, (hex_lacks bytes packet.bytes_are, tt))))))
-      (λ k. ap (after_shown (reading_of mesh a k)) (shown_read c some le packet) ∙ ap (with_shown (reading_of mesh a k) c.id (copy_told mesh c).1) told ∙ ap (λ b. told_if b (reading_of mesh a k)) (same_copy c))
+      (λ k. ap (after_shown (reading_of mesh a k)) (shown_read c some le packet) ∙ ap (with_shown (reading_of mesh a k) c.id (copy_told mesh c).1) told ∙ ap (λ b. checked_if b (reading_of mesh a k)) (same_copy c))
 
   -- all copies in flight
   all_shown : (ws pre cs : List Copy) (n next : ℕ) → pre ++ cs ≡ ws → AreNumbered 1 ws next → next ≤ greatest_id + 1 → AllByRecursion (λ (c : Copy). IsPacketText (packet_of mesh c.message)) cs

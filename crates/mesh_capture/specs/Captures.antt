@@ -22,7 +22,7 @@ refused_after r = Ended [] [] (BadLine (r.lines + 1))
 -- a line that comes to this, or is refused
 abbrev pub captured_after : Reading → Option LineOutcome → Outcome Reading CaptureVerdict
 captured_after r None = refused_after r
-captured_after r (Some told) = On (framed_if told.frame) told.now
+captured_after r (Some outcome) = On (framed_if outcome.frame) outcome.now
 
 -- a line that goes past a limit is refused too
 abbrev pub line_captured : Reading → Piece → Outcome Reading CaptureVerdict

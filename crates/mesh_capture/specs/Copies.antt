@@ -46,8 +46,8 @@ abbrev pub no_frame : Reading → LineOutcome
 no_frame r = record { now = r; frame = None }
 
 -- a line that says nothing about copies, and is refused if it isn't of its form
-abbrev pub told_if : Bool → Reading → Option LineOutcome
-told_if of_form r = if of_form then Some (no_frame r) else None
+abbrev pub checked_if : Bool → Reading → Option LineOutcome
+checked_if of_form r = if of_form then Some (no_frame r) else None
 
 -- ---- packets and copies
 
@@ -130,7 +130,7 @@ is_same_copy a b = (a.from == b.from) && (a.to == b.to) && bytes_eq a.packet b.p
 -- to be the same
 abbrev pub with_shown : Reading → ℕ → FlyingCopy → Option FlyingCopy → Option LineOutcome
 with_shown r id shown None = Some (joined r id shown)
-with_shown r id shown (Some known) = told_if (is_same_copy shown known) r
+with_shown r id shown (Some known) = checked_if (is_same_copy shown known) r
 
 -- a line `copy` below `flight`
 abbrev pub after_shown : Reading → Option (ℕ × FlyingCopy) → Option LineOutcome
@@ -178,27 +178,27 @@ after_link r words =
 -- an effect by its first word, below a line that has this below it
 abbrev pub effect_below : Reading → Below → List ℕ → List (List ℕ) → Option LineOutcome
 effect_below r Nothing word words = None
-effect_below r Link word words = told_if (is_idle word words) r
+effect_below r Link word words = checked_if (is_idle word words) r
 effect_below r (Casts node packet) word words =
     if bytes_eq word (codes "copy") then after_copy r (Casts node packet) (copy_words words) else
-    if bytes_eq word (codes "took") then told_if (is_taken words) r else
+    if bytes_eq word (codes "took") then checked_if (is_taken words) r else
     if bytes_eq word (codes "sent") then after_sent r (Casts node packet) words
-    else told_if (is_of_cast word words) r
+    else checked_if (is_of_cast word words) r
 effect_below r (Delivers id) word words =
     if bytes_eq word (codes "heard") then after_end r false id words
-    else told_if (is_idle word words) r
+    else checked_if (is_idle word words) r
 effect_below r (Loses id) word words =
     if bytes_eq word (codes "lost") then after_end r true id words
-    else told_if (is_of_loss word words) r
+    else checked_if (is_of_loss word words) r
 effect_below r (Doubles id) word words =
     if bytes_eq word (codes "copy") then after_copy r (Doubles id) (copy_words words)
-    else told_if (is_idle word words) r
-effect_below r Node word words = told_if (is_of_node word words) r
-effect_below r Route word words = told_if (is_of_route word words) r
+    else checked_if (is_idle word words) r
+effect_below r Node word words = checked_if (is_of_node word words) r
+effect_below r Route word words = checked_if (is_of_route word words) r
 effect_below r Flight word words =
     if bytes_eq word (codes "copy") then after_shown r (shown_copy words) else None
 effect_below r Place word words =
-    if is_link word then after_link r words else told_if (is_idle word words) r
+    if is_link word then after_link r words else checked_if (is_idle word words) r
 
 abbrev pub effect : Reading → List (List ℕ) → Option LineOutcome
 effect r [] = None

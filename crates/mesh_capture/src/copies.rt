@@ -62,7 +62,7 @@ impl Model for Copies {
 }
 
 // What is read of a line that says nothing about copies: it is refused if it isn't of its form.
-fn told(of_form: bool) -> Result<Option<Frame>, ReadError>
+fn checked(of_form: bool) -> Result<Option<Frame>, ReadError>
     ensures done { IfOk result (λ frame. (of_form ≡ true) × (frame ≡ None)) }
     ensures bad { IfErr result (λ e. of_form ≡ false) }
 {
@@ -327,7 +327,7 @@ impl Copies {
                 self.copy(words)?;
                 Ok(None)
             }
-            Below::Casts(_, _) if is(word, b"took") => told(is_taken(words)),
+            Below::Casts(_, _) if is(word, b"took") => checked(is_taken(words)),
             Below::Casts(_, _) if is(word, b"sent") => {
                 self.sent(words)?;
                 Ok(None)
@@ -338,17 +338,17 @@ impl Copies {
                 self.link(words)?;
                 Ok(None)
             }
-            Below::Casts(_, _) => told(is_of_cast(word, words)),
-            Below::Loses(_) => told(is_of_loss(word, words)),
-            Below::Node => told(is_of_node(word, words)),
-            Below::Route => told(is_of_route(word, words)),
+            Below::Casts(_, _) => checked(is_of_cast(word, words)),
+            Below::Loses(_) => checked(is_of_loss(word, words)),
+            Below::Node => checked(is_of_node(word, words)),
+            Below::Route => checked(is_of_route(word, words)),
             Below::Flight if is(word, b"copy") => {
                 self.shown(words)?;
                 Ok(None)
             }
             Below::Nothing | Below::Flight => Err(ReadError::BadLine),
             Below::Link | Below::Delivers(_) | Below::Doubles(_) | Below::Place => {
-                told(is_idle(word, words))
+                checked(is_idle(word, words))
             }
         }
     }

@@ -15,7 +15,7 @@ use std::alloc::Global;
 
 // Writes the capture of the text that a source gives.
 fn write_file<I: Source, O: Sink>(alloc: Global, input: &mut I, out: &mut O) -> CaptureStatus
-    ensures told { IfSome (I.left input.old) (λ text.
+    ensures known { IfSome (I.left input.old) (λ text.
         IsFile text (I.left input.new) (O.held out.old) (O.held out.new) result) }
     ensures end { result ≡ CaptureStatus.Done → IsAtEnd (I.left input.new) }
     ensures read { HasSourceCause (I.faults input.old) (I.faults input.new) result }

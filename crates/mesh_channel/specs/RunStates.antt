@@ -46,9 +46,9 @@ IsLeftBehind c (Some e) k =
 -- ---- one event
 
 -- whether an event was done, without what it did
-abbrev pub told_of : {T : Type 0} → Result T Stop → Result (Unit {0}) Stop
-told_of (Ok done) = Ok tt
-told_of (Err stop) = Err stop
+abbrev pub without_value : {T : Type 0} → Result T Stop → Result (Unit {0}) Stop
+without_value (Ok done) = Ok tt
+without_value (Err stop) = Err stop
 
 -- the same, in the form of an answer for several events, whose number is left out
 abbrev pub counted_of : {T : Type 0} → Result T Stop → Result ℕ Stop

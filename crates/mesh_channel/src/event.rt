@@ -17,7 +17,7 @@ ghost use Rattle.mesh_run.specs.Outputs.{says_lines};
 ghost use Rattle.mesh_run.specs.Causes.{HasStopCause};
 ghost use Rattle.mesh_run.specs.Runs.{output_if, line_outcome_at, IsLineOf, IsLineRun};
 ghost use Rattle.mesh_fates.specs.Channels as channels;
-ghost use Rattle.mesh_channel.specs.RunStates.{told_of, decided_in_air, HasNumbers, HasAnswer, IsAnswerOf};
+ghost use Rattle.mesh_channel.specs.RunStates.{without_value, decided_in_air, HasNumbers, HasAnswer, IsAnswerOf};
 ghost use Rattle.mesh_channel.specs.Room.{HasFewCopies};
 ghost use Rattle.mesh_base.specs.Members.{member_list};
 
@@ -69,7 +69,7 @@ pub fn do_event<'a, O: Sink>(
         IsLineOf at.old.point.mesh (Does (event_of event)) b.now) }
     ensures comes { IsLineRun (says_lines at.old.say) at.old.point
         (line_outcome_at at.old.point (event_of event.entry)) at.new.point
-        (O.held out.old) (O.held out.new) (told_of result) }
+        (O.held out.old) (O.held out.new) (without_value result) }
     ensures answer { IfOk result
         (IsAnswerOf at.old.point (event_of event.entry) at.new.point) }
     ensures copies { OnOk result (HasFewCopies at.new.point) }

@@ -96,7 +96,7 @@ pub fn read_tables<I: Source>(
     input: &mut I,
 ) -> Result<ReadVerdict, Fault>
     requires { checking.old ≡ nothing_read }
-    ensures told { IfSome (I.left input.old) (λ text.
+    ensures known { IfSome (I.left input.old) (λ text.
         IsOutputFrom reading text_limits nothing_read text (I.left input.new) None None result) }
     ensures after { IfOk result (λ v. v ≡ ReadVerdict.Read → IfSome (I.left input.old)
         (λ text. checking.new ≡ (reading_of text).after)) }

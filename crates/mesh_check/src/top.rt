@@ -15,7 +15,7 @@ use std::alloc::Global;
 
 // Writes whether the tables are sound.
 fn tell<O: Sink>(tables: &PrintedTables, out: &mut O) -> CheckStatus
-    ensures told { IsOutput (O.held out.old) (O.held out.new) (Shows tables.now.closed) result }
+    ensures written { IsOutput (O.held out.old) (O.held out.new) (Shows tables.now.closed) result }
     ensures acyclic { result ≡ CheckStatus.Yes → HasNoCycle (Shows tables.now.closed) }
     ensures write { result ≡ CheckStatus.WriteFault
         → Rose (O.faults out.old) (O.faults out.new) }
@@ -38,7 +38,7 @@ fn tell<O: Sink>(tables: &PrintedTables, out: &mut O) -> CheckStatus
 
 // Writes that a line is refused.
 fn refuse<O: Sink>(line: u64, out: &mut O) -> CheckStatus
-    ensures told { IsOutput (O.held out.old) (O.held out.new) (Refuses line) result }
+    ensures written { IsOutput (O.held out.old) (O.held out.new) (Refuses line) result }
     ensures write { result ≡ CheckStatus.WriteFault
         → Rose (O.faults out.old) (O.faults out.new) }
     ensures none { result ≢ CheckStatus.WriteFault → O.faults out.new ≡ O.faults out.old }

@@ -23,7 +23,7 @@ pub fn run_schedule<I: Source, O: Sink>(
     out: &mut O,
     memory: Memory,
 ) -> Status
-    ensures told { IfSome (I.left input.old) (λ bytes. IsOutputFrom (say_by quiet)
+    ensures known { IfSome (I.left input.old) (λ bytes. IsOutputFrom (say_by quiet)
         (opening variant) bytes (I.left input.new) (O.held out.old) (O.held out.new) result) }
     ensures end { result ≡ Status.Done → IsAtEnd (I.left input.new) }
     ensures read { HasSourceCause (I.faults input.old) (I.faults input.new) result }

@@ -18,7 +18,7 @@ use std::alloc::Global;
 #[inline(never)]
 fn make_schedule<O: Sink>(plan: Plan, out: &mut O) -> Status
     requires { IsPlan plan }
-    ensures told { IsWritten (O.held out.old) (O.held out.new) (made_by plan) result }
+    ensures written { IsWritten (O.held out.old) (O.held out.new) (made_by plan) result }
     ensures write { HasStatusCause Status.WriteFault (O.faults out.old) (O.faults out.new) result }
 {
     match make(plan.seed, plan.nodes, plan.steps, out) {
@@ -36,7 +36,7 @@ fn do_command<I: Source, O: Sink>(
     memory: Memory,
 ) -> Status
     requires { IsAllowed command }
-    ensures told { IsCommandRun command (I.left input.old) (I.left input.new)
+    ensures known { IsCommandRun command (I.left input.old) (I.left input.new)
         (O.held out.old) (O.held out.new) result }
     ensures untouched { reads command ≡ false → input.new ≡ input.old }
     ensures end { result ≡ Status.Done → IsReadBy command (I.left input.new) }

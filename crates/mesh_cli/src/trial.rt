@@ -35,7 +35,7 @@ fn do_made<O: Sink>(
     requires short { length (still_to_come maker.old) ≤ LONGEST_INPUT }
     requires few { at.old.lines < most_lines_before_run }
     requires steps { at.old.steps < most_steps_before_run }
-    ensures told { IsOutput (O.held out.old) (O.held out.new)
+    ensures written { IsOutput (O.held out.old) (O.held out.new)
         (part Last (text_on at.old (still_to_come maker.old))) (status_of result) }
     ensures write { HasFaultCause Fault.WriteFault (O.faults out.old) (O.faults out.new) result }
     ensures read { ¬ IsErrOf result Fault.ReadFault }
@@ -63,7 +63,7 @@ pub fn trial<O: Sink>(
     memory: Memory,
 ) -> Status
     requires { IsPlan plan }
-    ensures told { IsOutput (O.held out.old) (O.held out.new)
+    ensures written { IsOutput (O.held out.old) (O.held out.new)
         (part Last (text_of_input variant (made_by plan))) result }
     ensures write { HasStatusCause Status.WriteFault (O.faults out.old) (O.faults out.new) result }
     ensures read { result ≢ Status.ReadFault }

@@ -82,16 +82,16 @@ cut_links w x y is =
     ap (λ v. v.links) (run_one w (Cut (min x y) (max x y)) ∙ cutting w (min x y) (max x y) (ap (sets.contains w.links) (pair_again x y) ∙ is))
     ∙ ap (sets.remove w.links) (pair_again x y)
 
--- the pair itself is linked where it is due
-change_here : (w : World) (due stands : Bool) (x y : ℕ) → are_linked w.links x y ≡ stands → are_linked (run w (change due stands x y)).links x y ≡ due
+-- the pair itself is linked where it is within reach
+change_here : (w : World) (in_reach stands : Bool) (x y : ℕ) → are_linked w.links x y ≡ stands → are_linked (run w (change in_reach stands x y)).links x y ≡ in_reach
 change_here w true true x y is = ap (λ v. are_linked v.links x y) (run_none w) ∙ is
 change_here w false false x y is = ap (λ v. are_linked v.links x y) (run_none w) ∙ is
 change_here w true false x y is = ap (λ s. sets.contains s (pair x y)) (linked_links w x y is) ∙ with_same w.links (pair x y)
 change_here w false true x y is = ap (λ s. sets.contains s (pair x y)) (cut_links w x y is) ∙ less_same w.links (pair x y)
 
 -- any other pair is linked as it was
-change_there : (w : World) (due stands : Bool) (x y a b : ℕ) → are_linked w.links x y ≡ stands → pair a b ≢ pair x y
-    → are_linked (run w (change due stands x y)).links a b ≡ are_linked w.links a b
+change_there : (w : World) (in_reach stands : Bool) (x y a b : ℕ) → are_linked w.links x y ≡ stands → pair a b ≢ pair x y
+    → are_linked (run w (change in_reach stands x y)).links a b ≡ are_linked w.links a b
 change_there w true true x y a b is apart = ap (λ v. are_linked v.links a b) (run_none w)
 change_there w false false x y a b is apart = ap (λ v. are_linked v.links a b) (run_none w)
 change_there w true false x y a b is apart = ap (λ s. sets.contains s (pair a b)) (linked_links w x y is) ∙ with_other w.links (pair x y) (pair a b) apart

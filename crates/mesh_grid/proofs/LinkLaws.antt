@@ -39,7 +39,7 @@ use Rattle.mesh_grid.specs.declared.place.Places.{Places}
 use Rattle.mesh_grid.specs.declared.line.Placing.{Placing}
 use Rattle.mesh_grid.specs.Places.{apart, squared_distance, no_places, place_of, with_place}
 use Rattle.mesh_grid.specs.Lines.{placing_of}
-use Rattle.mesh_grid.specs.Links.{are_near, is_due, may_come, with_placing}
+use Rattle.mesh_grid.specs.Links.{are_near, is_in_reach, may_come, with_placing}
 use Rattle.mesh_grid.specs.Text.{RunState, opening, has_begun, changes, change_line, outcome_of_placing, other_line, outcome_by, outcome_of_piece, places_by, places_after, next, RunText, goes_on, text_from}
 use Rattle.mesh_grid.specs.Runs.{run_state_at}
 use Rattle.mesh_grid.specs.Laws.{LinksFollowPlaces, LinesAreLoopFree}
@@ -167,7 +167,7 @@ other_named m bytes others other is = tt
 record Linked (reach : ℕ) (m : RunState) : Type 0 where
   kept : IsKept m.run
   size : length m.places.at ≡ MOST_NODES
-  linked : (a b : ℕ) → are_linked (world_of m.run).links a b ≡ is_due reach m.places a b
+  linked : (a b : ℕ) → are_linked (world_of m.run).links a b ≡ is_in_reach reach m.places a b
   within : (c : ℕ) → length m.run.mesh ≤ c → place_of m.places c ≡ None
   early : m.places.begun ≡ false → m.places ≡ no_places
 
@@ -187,20 +187,20 @@ and_false : (b : Bool) → (b && false) ≡ false
 and_false true = refl
 and_false false = refl
 
--- nothing is due with a node that has no place
-due_none : (reach : ℕ) (places : Places) (a b : ℕ) → place_of places b ≡ None → is_due reach places a b ≡ false
-due_none reach places a b none =
+-- nothing is within reach of a node that has no place
+in_reach_none : (reach : ℕ) (places : Places) (a b : ℕ) → place_of places b ≡ None → is_in_reach reach places a b ≡ false
+in_reach_none reach places a b none =
     ap (λ o. not (eqb a b) && are_near reach (place_of places a) o) none ∙ ap (λ c. not (eqb a b) && c) (near_none reach (place_of places a)) ∙ and_false (not (eqb a b))
 
-none_due : (reach a b : ℕ) → is_due reach no_places a b ≡ false
-none_due reach a b = due_none reach no_places a b (none_at MOST_NODES b)
+none_in_reach : (reach a b : ℕ) → is_in_reach reach no_places a b ≡ false
+none_in_reach reach a b = in_reach_none reach no_places a b (none_at MOST_NODES b)
 
 opening_linked : (reach : ℕ) (v : Variant) → Linked reach (opening v)
 unfolding start
 opening_linked reach v = record {
   kept = opening_kept v;
   size = length-replicate MOST_NODES nowhere;
-  linked = λ a b. sets.contains-empty pair_cmp (pair a b) ∙ sym (none_due reach a b);
+  linked = λ a b. sets.contains-empty pair_cmp (pair a b) ∙ sym (none_in_reach reach a b);
   within = λ c _. none_at MOST_NODES c;
   early = λ _. refl;
 }
@@ -272,12 +272,12 @@ apart_turned a b = by (cases_eq a b)
     by (inl same) = eq-eqb a b same ∙ sym (eq-eqb b a (sym same))
     by (inr other) = ne_eqb a b other ∙ sym (ne_eqb b a (λ same. other (sym same)))
 
-due_turned : (reach : ℕ) (places : Places) (a b : ℕ) → is_due reach places a b ≡ is_due reach places b a
-due_turned reach places a b =
+in_reach_turned : (reach : ℕ) (places : Places) (a b : ℕ) → is_in_reach reach places a b ≡ is_in_reach reach places b a
+in_reach_turned reach places a b =
     ap₂ (λ c d. not c && d) (apart_turned a b) (near_turned reach (place_of places a) (place_of places b))
 
-due_apart : (reach : ℕ) (places : Places) (a b : ℕ) → a ≢ b → is_due reach places a b ≡ are_near reach (place_of places a) (place_of places b)
-due_apart reach places a b other = ap (λ c. not c && are_near reach (place_of places a) (place_of places b)) (ne_eqb a b other)
+in_reach_apart : (reach : ℕ) (places : Places) (a b : ℕ) → a ≢ b → is_in_reach reach places a b ≡ are_near reach (place_of places a) (place_of places b)
+in_reach_apart reach places a b other = ap (λ c. not c && are_near reach (place_of places a) (place_of places b)) (ne_eqb a b other)
 
 module _ (reach : ℕ) (m : RunState) (new : Placing) (is : Linked reach m) (inside : new.node < length m.run.mesh) where
   abbrev w : World
@@ -304,7 +304,7 @@ module _ (reach : ℕ) (m : RunState) (new : Placing) (is : Linked reach m) (ins
   place_there : (c : ℕ) → c ≢ x → place_of moved c ≡ place_of m.places c
   place_there c other = get_or-set_other m.places.at x c (Some new.place) None other
 
-  still : (a b : ℕ) → ((y : ℕ) → y < size → pair a b ≢ pair x y) → are_linked then.links a b ≡ is_due reach m.places a b
+  still : (a b : ℕ) → ((y : ℕ) → y < size → pair a b ≢ pair x y) → are_linked then.links a b ≡ is_in_reach reach m.places a b
   still a b other =
       unchanged reach m.places (range w x) new w size stands size (omega arith) a b other ∙ is.linked a b
 
@@ -315,18 +315,18 @@ module _ (reach : ℕ) (m : RunState) (new : Placing) (is : Linked reach m) (ins
   near_x y None at other (inl lt) =
       changed reach m.places (range w x) new w size stands size (omega arith) y lt other
       ∙ ap (λ o. linked_with reach new.place o (are_linked w.links x y)) at
-      ∙ is.linked x y ∙ due_none reach m.places x y at
+      ∙ is.linked x y ∙ in_reach_none reach m.places x y at
   near_x y None at other (inr le) =
-      still x y (λ z lt. pair_apart x y z (λ same. absurd (omega arith))) ∙ due_none reach m.places x y at
+      still x y (λ z lt. pair_apart x y z (λ same. absurd (omega arith))) ∙ in_reach_none reach m.places x y at
   near_x y (Some q) at other (inr le) = absurd (let none : Some q ≡ None = sym at ∙ is.within y le in let P : ⊥ = cc in P)
 
-  linked_x : (y : ℕ) → y ≢ x → are_linked then.links x y ≡ is_due reach moved x y
+  linked_x : (y : ℕ) → y ≢ x → are_linked then.links x y ≡ is_in_reach reach moved x y
   linked_x y other =
       near_x y (place_of m.places y) refl other (cases_lt y size)
       ∙ ap₂ (are_near reach) (sym place_here) (sym (place_there y other))
-      ∙ sym (due_apart reach moved x y (λ same. other (sym same)))
+      ∙ sym (in_reach_apart reach moved x y (λ same. other (sym same)))
 
-  linked_others : (a b : ℕ) → a ≢ x → b ≢ x → are_linked then.links a b ≡ is_due reach moved a b
+  linked_others : (a b : ℕ) → a ≢ x → b ≢ x → are_linked then.links a b ≡ is_in_reach reach moved a b
   linked_others a b first second =
       still a b others
       ∙ ap₂ (λ o p. not (eqb a b) && are_near reach o p) (sym (place_there a first)) (sym (place_there b second))
@@ -358,16 +358,16 @@ module _ (reach : ℕ) (m : RunState) (new : Placing) (is : Linked reach m) (ins
               absurd (omega arith)
           by false there = there
 
-      pairs : (a b : ℕ) → (a ≡ x) ⊎ (a ≢ x) → (b ≡ x) ⊎ (b ≢ x) → are_linked then.links a b ≡ is_due reach moved a b
+      pairs : (a b : ℕ) → (a ≡ x) ⊎ (a ≢ x) → (b ≡ x) ⊎ (b ≢ x) → are_linked then.links a b ≡ is_in_reach reach moved a b
       pairs a b (inl first) (inl second) =
           let same : a ≡ b = first ∙ sym second in
-          subst (λ c. are_linked then.links a c ≡ is_due reach moved a c) same
+          subst (λ c. are_linked then.links a c ≡ is_in_reach reach moved a c) same
           (alone a ∙ sym (ap (λ c. not c && are_near reach (place_of moved a) (place_of moved a)) (eq-eqb a a refl)))
       pairs a b (inl first) (inr second) =
-          subst (λ c. are_linked then.links c b ≡ is_due reach moved c b) (sym first) (linked_x b second)
+          subst (λ c. are_linked then.links c b ≡ is_in_reach reach moved c b) (sym first) (linked_x b second)
       pairs a b (inr first) (inl second) =
-          subst (λ c. are_linked then.links a c ≡ is_due reach moved a c) (sym second)
-          (linked_turned then.links a x ∙ linked_x a first ∙ due_turned reach moved x a)
+          subst (λ c. are_linked then.links a c ≡ is_in_reach reach moved a c) (sym second)
+          (linked_turned then.links a x ∙ linked_x a first ∙ in_reach_turned reach moved x a)
       pairs a b (inr first) (inr second) = linked_others a b first second
 
   placing_linked : (bytes : List ℕ) → IsKeptCame (outcome_of_placing reach m bytes new) → LinkedCame reach (with_placing m.places new) (outcome_of_placing reach m bytes new)

@@ -39,7 +39,7 @@ use Rattle.mesh_grid.proofs.PlaceSteps.{came-other, other_line_is_as_in_schedule
 
 -- ---- the changes of links are events of the mesh
 
-change_usual : (size : ℕ) (due stands : Bool) (x y : ℕ) → x < size → y < size → x ≢ y → UsualList size (change due stands x y)
+change_usual : (size : ℕ) (in_reach stands : Bool) (x y : ℕ) → x < size → y < size → x ≢ y → UsualList size (change in_reach stands x y)
 unfolding UsualList
 change_usual size true true x y first second apart = tt
 change_usual size false false x y first second apart = tt

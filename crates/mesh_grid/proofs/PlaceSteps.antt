@@ -99,7 +99,7 @@ other-same reach m bytes other same =
 
 -- ---- how many changes there are
 
-one_change : (due stands : Bool) (x y : ℕ) → length (change due stands x y) ≤ 1
+one_change : (in_reach stands : Bool) (x y : ℕ) → length (change in_reach stands x y) ≤ 1
 one_change true true x y = omega arith
 one_change false false x y = omega arith
 one_change true false x y = omega arith

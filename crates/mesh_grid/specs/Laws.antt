@@ -13,16 +13,16 @@ use Rattle.mesh_text.specs.Text as text
 use Rattle.mesh_text.specs.Accounts.{IsBalanced}
 use Rattle.mesh_grid.specs.declared.line.Placing.{Placing}
 use Rattle.mesh_grid.specs.Lines.{placing_of, place_words}
-use Rattle.mesh_grid.specs.Links.{is_due}
+use Rattle.mesh_grid.specs.Links.{is_in_reach}
 use Rattle.mesh_grid.specs.Text.{RunState, other_line, outcome_of_piece, text_of_input}
 use Rattle.mesh_grid.specs.Runs.{AreDone, run_state_at, state_within, mesh_of_input, world_after, IsOfEvents, events_of_input}
 
--- after each allowed line of an input, the links that stand are those that are due: between two
--- nodes with places that are within reach of each other. Before there is a world none is due
+-- after each allowed line of an input, the links that stand are those between nodes with places
+-- that are within reach of each other. Before there is a world none stands
 abbrev pub LinksFollowPlaces : Type 0
 LinksFollowPlaces = (reach : ℕ) (variant : Variant) (input : List ℕ) (i a b : ℕ)
     → let m = run_state_at reach variant input i in
-    are_linked (world_of m.run).links a b ≡ is_due reach m.places a b
+    are_linked (world_of m.run).links a b ≡ is_in_reach reach m.places a b
 
 -- the world after the last allowed line is the one to which the input's first events, as many as
 -- were counted, lead; and unless a full counter has ended the run, all of them were counted

@@ -1,4 +1,4 @@
--- The links that are due between nodes with places, and the changes that follow when a node comes
+-- Which nodes are within reach of each other, and the changes that follow when a node comes
 -- to a place.
 use Rattle.std.specs.Prelude.{ℕ, zero, suc, ◌==◌, not, ◌&&◌, min, max, Bool, true, false, if◌then◌else◌, List, [], ◌∷◌, ◌++◌, Option, Some, None}
 use Rattle.std.specs.FinSet as sets
@@ -9,26 +9,26 @@ use Rattle.mesh_grid.specs.declared.place.Places.{Places}
 use Rattle.mesh_grid.specs.declared.line.Placing.{Placing}
 use Rattle.mesh_grid.specs.Places.{is_within, place_of, with_place}
 
--- ---- links that are due
+-- ---- nodes within reach
 
 -- both have a place, and the two places are within reach of each other
 abbrev pub are_near : ℕ → Option Place → Option Place → Bool
 are_near reach (Some p) (Some q) = is_within reach p q
 are_near reach others place = false
 
--- a link is due between two nodes
-abbrev pub is_due : ℕ → Places → ℕ → ℕ → Bool
-is_due reach places a b =
+-- two nodes have places within reach of each other
+abbrev pub is_in_reach : ℕ → Places → ℕ → ℕ → Bool
+is_in_reach reach places a b =
     not (a == b) && are_near reach (place_of places a) (place_of places b)
 
 -- ---- changes
 
--- the link between x and y, the smaller first, is made if it is due and doesn't stand; it is cut if
--- it stands and isn't due
-abbrev pub change : (due stands : Bool) → ℕ → ℕ → List Event
+-- the link between x and y, the smaller first, is made if they are within reach and it doesn't
+-- stand; it is cut if it stands and they aren't
+abbrev pub change : (in_reach stands : Bool) → ℕ → ℕ → List Event
 change true false x y = Link (min x y) (max x y) ∷ []
 change false true x y = Cut (min x y) (max x y) ∷ []
-change due stands x y = []
+change in_reach stands x y = []
 
 -- the change between x, which has come to a place, and y, if y has a place
 abbrev pub change_with : ℕ → ℕ → Place → ℕ → Option Place → Bool → List Event

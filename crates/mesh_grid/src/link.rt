@@ -11,15 +11,15 @@ use crate::place::Places;
 use mesh_base::{Event, NodeSet};
 
 // The change between two nodes, if there is one.
-fn change(due: bool, stands: bool, x: usize, y: usize) -> Option<Event<'static>>
-    ensures { events_in result ≡ links.change due stands x y }
+fn change(in_reach: bool, stands: bool, x: usize, y: usize) -> Option<Event<'static>>
+    ensures { events_in result ≡ links.change in_reach stands x y }
 {
     let a = x.min(y);
     let b = x.max(y);
-    if due && !stands {
+    if in_reach && !stands {
         return Some(Event::Link { a, b });
     }
-    if stands && !due {
+    if stands && !in_reach {
         return Some(Event::Cut { a, b });
     }
     None
@@ -64,7 +64,7 @@ impl Places {
             return None;
         }
         let other = self.of(y)?;
-        let due = new.place.is_within(reach, other);
-        change(due, near.has(y), new.node, y)
+        let in_reach = new.place.is_within(reach, other);
+        change(in_reach, near.has(y), new.node, y)
     }
 }

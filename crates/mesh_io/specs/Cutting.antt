@@ -130,7 +130,7 @@ pub record NextTells {S : Type 0} {room : ℕ} {G : Ghosts S} (most : Limits)
     (result : Result (Option (Bor (List ℕ))) LineError) (now : Cutter S room G) : Type 0 where
   pub same : (source_in now).ghost_name ≡ (source_in old).ghost_name
   pub limits : limits_in now ≡ most
-  pub told : IfSome (ahead_in left old)
+  pub known : IfSome (ahead_in left old)
       (λ bytes. Tells most (given_in old) bytes (found_in result) (shown_in result)
       (given_in now) (ahead_in left now))
   pub unread : decides_in old ≡ true → (source_in now).now ≡ (source_in old).now

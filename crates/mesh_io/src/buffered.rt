@@ -6,7 +6,7 @@ ghost use Rattle.mesh_io.specs.Puts.{AppendsPrefix};
 ghost use Rattle.mesh_io.specs.Buffering.{inner_of, gathered_in, held_by, HandsOn};
 ghost use Rattle.mesh_io.specs.BufferSize.{buffer_size};
 
-use crate::put::{PutFault, put_front};
+use crate::put::{PutFault, put_prefix};
 use crate::reserved_buffer::ReservedBuffer;
 use crate::sink::Sink;
 use crate::source::Failed;
@@ -46,7 +46,7 @@ impl<S: Sink> Buffered<S> {
     {
         let gathered = self.gathered.bytes();
         let count = gathered.len();
-        let handed = put_front(&mut self.inner, gathered);
+        let handed = put_prefix(&mut self.inner, gathered);
         if handed < count {
             self.gathered.drop_front(handed);
             return Err(PutFault);

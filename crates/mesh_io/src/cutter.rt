@@ -160,7 +160,7 @@ impl<'s, S: Source, const CAPACITY: usize> Cutter<'s, S, CAPACITY> {
     pub fn advance(&mut self) -> Result<bool, LineError>
         ensures same { (source_in self.new).ghost_name ≡ (source_in self.old).ghost_name }
         ensures most { limits_in self.new ≡ limits_in self.old }
-        ensures told { IfSome (ahead_in S.left self.old) (λ bytes.
+        ensures known { IfSome (ahead_in S.left self.old) (λ bytes.
             Tells (limits_in self.old) (given_in self.old) bytes result
             (line_in self.new) (given_in self.new) (ahead_in S.left self.new)) }
         ensures unread { decides_in self.old ≡ true →

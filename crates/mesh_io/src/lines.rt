@@ -68,7 +68,7 @@ impl<'s, S: Source> Lines<'s, S> {
     /// that was read whole was held back. If no read is needed, none fails.
     pub fn advance(&mut self) -> Result<bool, LineError>
         ensures same { (source_of self.new).ghost_name ≡ (source_of self.old).ghost_name }
-        ensures told { IfSome (ahead_of S.left self.old) (λ bytes.
+        ensures known { IfSome (ahead_of S.left self.old) (λ bytes.
             Tells schedule_limits (given_of self.old) bytes result
             (line_of self.new) (given_of self.new) (ahead_of S.left self.new)) }
         ensures unread { is_decided_at self.old ≡ true →

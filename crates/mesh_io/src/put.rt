@@ -13,7 +13,7 @@ use thiserror::Error;
 pub struct PutFault;
 
 /// Writes the piece up to its end or the first fault, and returns how many bytes were written.
-pub fn put_front<O: Sink>(out: &mut O, piece: &[u8]) -> usize
+pub fn put_prefix<O: Sink>(out: &mut O, piece: &[u8]) -> usize
     ensures within { result ≤ length piece.now }
     ensures text { Appends (O.held out.old) (O.held out.new) (take result piece.now) }
     ensures later { O.faults out.old ≤ O.faults out.new }
@@ -37,7 +37,7 @@ fn put_in_parts<O: Sink>(out: &mut O, piece: &[u8]) -> Result<(), PutFault>
     ensures text { Puts (O.held out.old) (O.held out.new) piece.now result }
     ensures cause { HasCause (O.faults out.old) (O.faults out.new) result }
 {
-    if put_front(out, piece) < piece.len() {
+    if put_prefix(out, piece) < piece.len() {
         return Err(PutFault);
     }
     Ok(())

@@ -93,11 +93,11 @@ fn is_limit(label: &[u8], most: usize, what: &[u8], text: &[u8]) -> bool
     requires { length label.now + 20 + length what.now ≤ LINE_CAPACITY }
     ensures { result ≡ lines.is_limit label.now most what.now text.now }
 {
-    let mut due = LineBuf::new();
-    push_text(&mut due, label);
-    push_number(&mut due, most as u64);
-    push_text(&mut due, what);
-    is(text, due.as_slice())
+    let mut wanted = LineBuf::new();
+    push_text(&mut wanted, label);
+    push_number(&mut wanted, most as u64);
+    push_text(&mut wanted, what);
+    is(text, wanted.as_slice())
 }
 
 fn is_past_limit(text: &[u8]) -> bool

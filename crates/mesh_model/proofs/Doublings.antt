@@ -21,8 +21,8 @@ full_told : (w : World) (e : Event) (near : NodeIds) (x : ℕ) (n : Node) (f : C
 full_told w (Double id) near x n f full = absurd full
 full_told w others near x n f full = refl
 
-pub doubling_told : (w : World) (e : Event) → doubled_data any w e ≡ doubled_at (step w e)
-doubling_told w e = by_cases w (λ e o. doubled_data any w e ≡ doubled_at o) (record {
+pub doubling_counted : (w : World) (e : Event) → doubled_data any w e ≡ doubled_at (step w e)
+doubling_counted w e = by_cases w (λ e o. doubled_data any w e ≡ doubled_at o) (record {
   idle = λ e none. idle_told w e none;
   full = λ e x n f is full. full_told w e (range w x) x n f full;
   given = λ x d b n is. refl;

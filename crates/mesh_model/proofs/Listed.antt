@@ -20,7 +20,7 @@ use Rattle.mesh_model.specs.Trails.{Around, CopyHasWalk, EntriesHaveWalks, Entry
 use Rattle.mesh_model.specs.Worlds.{World, are_linked, is_parcel}
 use Rattle.mesh_model.proofs.Stems.{Had, IsFrom, Stays, Stems}
 use Rattle.mesh_model.specs.Held.{CopyHolds, EntriesHold, EntryHolds, Holds, IsEntryWalk, ItemHolds, ItemsHold, MessageHolds, NodeHolds}
-use Rattle.mesh_model.specs.Kept.{KeptLists, entries_after, entry_list, is_near, is_route, is_told}
+use Rattle.mesh_model.specs.Kept.{KeptLists, entries_after, entry_list, is_near, is_route, is_announced}
 
 -- ---- where lists are walks there are walks
 
@@ -137,12 +137,12 @@ route_holds a x y d n h l now q e is grown one linked others list backed long ro
     let walk : IsEntryWalk a x d n (h + 1) y (x ∷ l) = record { others = others; is = ap (λ k. x ∷ k) list; backed = backed; long = long; linked = linked; absent = absent } in
     rw (r.of, r.dsn, r.hops, r.next) walk
 
-told_holds : (a : Around) (x y : ℕ) (tables : Table) (m : Message) (l : List ℕ) (now : Table) (q : ℕ) (e : Entry) → maps.get now q ≡ Some e → IsGrown a x now → IsHonest tables y m → are_linked a.ever y x ≡ true → MessageHolds a y m l
-    → is_told y m q e ≡ true → IsEntryWalk a x q e.dsn e.hops e.next (x ∷ l)
-told_holds a x y tables (Pkt b d o) l now q e is grown honest linked t told = cc
-told_holds a x y tables (Rreq m) l now q e is grown honest linked t told = route_holds a x y m.oip m.osn m.hops l now q e is grown honest.0 linked t.others t.is t.backed t.long told
-told_holds a x y tables (Rrep m) l now q e is grown honest linked t told = route_holds a x y m.dip m.dsn m.hops l now q e is grown honest.0 linked t.others t.is t.backed t.long told
-told_holds a x y tables (Rerr dests) l now q e is grown honest linked t told = cc
+announced_holds : (a : Around) (x y : ℕ) (tables : Table) (m : Message) (l : List ℕ) (now : Table) (q : ℕ) (e : Entry) → maps.get now q ≡ Some e → IsGrown a x now → IsHonest tables y m → are_linked a.ever y x ≡ true → MessageHolds a y m l
+    → is_announced y m q e ≡ true → IsEntryWalk a x q e.dsn e.hops e.next (x ∷ l)
+announced_holds a x y tables (Pkt b d o) l now q e is grown honest linked t announced = cc
+announced_holds a x y tables (Rreq m) l now q e is grown honest linked t announced = route_holds a x y m.oip m.osn m.hops l now q e is grown honest.0 linked t.others t.is t.backed t.long announced
+announced_holds a x y tables (Rrep m) l now q e is grown honest linked t announced = route_holds a x y m.dip m.dsn m.hops l now q e is grown honest.0 linked t.others t.is t.backed t.long announced
+announced_holds a x y tables (Rerr dests) l now q e is grown honest linked t announced = cc
 
 -- x has heard m with list l from y
 pub entries_hold : (a : Around) (x y : ℕ) (tables : Table) (m : Message) (l : List ℕ) (old now : Table) (walks : ℕ → List ℕ) → (is_parcel m ≡ true → Stays old now) → Stems y m old now → EntriesHold a x old walks → IsGrown a x now → IsHonest tables y m → are_linked a.ever y x ≡ true → MessageHolds a y m l
@@ -150,13 +150,13 @@ pub entries_hold : (a : Around) (x y : ℕ) (tables : Table) (m : Message) (l : 
 entries_hold a x y tables m l old now walks stays stems all grown honest linked t d e is valid =
     if_case (IsEntryWalk a x d e.dsn e.hops e.next) (is_parcel m) (walks d) (entry_list x y m l d (walks d) (maps.get now d))
     (λ plain. had_holds a x old walks d e all valid ((stays plain).had d e is valid))
-    (λ _. rw is (if_case (IsEntryWalk a x d e.dsn e.hops e.next) (is_near y d e) (x ∷ (y ∷ [])) (if is_told y m d e then x ∷ l else walks d)
+    (λ _. rw is (if_case (IsEntryWalk a x d e.dsn e.hops e.next) (is_near y d e) (x ∷ (y ∷ [])) (if is_announced y m d e then x ∷ l else walks d)
     (λ near. near_holds a x y d e linked near)
-    (λ far. if_case (IsEntryWalk a x d e.dsn e.hops e.next) (is_told y m d e) (x ∷ l) (walks d)
-    (λ told. told_holds a x y tables m l now d e is grown honest linked t told)
+    (λ far. if_case (IsEntryWalk a x d e.dsn e.hops e.next) (is_announced y m d e) (x ∷ l) (walks d)
+    (λ announced. announced_holds a x y tables m l now d e is grown honest linked t announced)
     (λ other. kept far other (stems.from d e is valid)))))
   where
-    kept : is_near y d e ≡ false → is_told y m d e ≡ false → IsFrom y m old d e → IsEntryWalk a x d e.dsn e.hops e.next (walks d)
+    kept : is_near y d e ≡ false → is_announced y m d e ≡ false → IsFrom y m old d e → IsEntryWalk a x d e.dsn e.hops e.next (walks d)
     kept far other (inl near) = cc
-    kept far other (inr (inl told)) = cc
+    kept far other (inr (inl announced)) = cc
     kept far other (inr (inr h)) = had_holds a x old walks d e all valid h

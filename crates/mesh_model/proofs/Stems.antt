@@ -17,7 +17,7 @@ use Rattle.mesh_base.specs.Members.{NodeIds}
 use Rattle.mesh_base.specs.declared.events.Variant.{Variant}
 use Rattle.mesh_base.specs.declared.events.Variant.TheVariants.{Base, Error, Number, Reply}
 use Rattle.mesh_model.specs.Worlds.{is_parcel}
-use Rattle.mesh_model.specs.Kept.{is_near, is_route, is_told}
+use Rattle.mesh_model.specs.Kept.{is_near, is_route, is_announced}
 use Rattle.mesh_model.proofs.MeshSteps.{has_more}
 use Rattle.mesh_model.proofs.TrailTables.{near_shape, known_shape}
 
@@ -31,9 +31,9 @@ pub record Had (old : Table) (q : ℕ) (e : Entry) : Type 0 where
 pub record Stays (old now : Table) : Type 0 where
   pub had : (q : ℕ) (e : Entry) → maps.get now q ≡ Some e → e.flag ≡ Val → Had old q e
 
--- the entry leads to the neighbour y, or is the route that y's message told of, or was there
+-- the entry leads to the neighbour y, or is the route that y's message announced, or was there
 abbrev pub IsFrom : ℕ → Message → Table → ℕ → Entry → Type 0
-IsFrom y m old q e = (is_near y q e ≡ true) ⊎ ((is_told y m q e ≡ true) ⊎ Had old q e)
+IsFrom y m old q e = (is_near y q e ≡ true) ⊎ ((is_announced y m q e ≡ true) ⊎ Had old q e)
 
 pub record Stems (y : ℕ) (m : Message) (old now : Table) : Type 0 where
   pub from : (q : ℕ) (e : Entry) → maps.get now q ≡ Some e → e.flag ≡ Val → IsFrom y m old q e
@@ -91,22 +91,22 @@ same_near y q e s same is = rw (same.hops, same.next) is
 same_route : (y d n h q : ℕ) (e s : Entry) → Same e s → is_route y d n h q s ≡ true → is_route y d n h q e ≡ true
 same_route y d n h q e s same is = rw (same.dsn, same.hops, same.next) is
 
-same_told : (y : ℕ) (m : Message) (q : ℕ) (e s : Entry) → Same e s → is_told y m q s ≡ true → is_told y m q e ≡ true
-same_told y (Pkt b d o) q e s same is = is
-same_told y (Rreq m) q e s same is = same_route y m.oip m.osn m.hops q e s same is
-same_told y (Rrep m) q e s same is = same_route y m.dip m.dsn m.hops q e s same is
-same_told y (Rerr dests) q e s same is = is
+same_announced : (y : ℕ) (m : Message) (q : ℕ) (e s : Entry) → Same e s → is_announced y m q s ≡ true → is_announced y m q e ≡ true
+same_announced y (Pkt b d o) q e s same is = is
+same_announced y (Rreq m) q e s same is = same_route y m.oip m.osn m.hops q e s same is
+same_announced y (Rrep m) q e s same is = same_route y m.dip m.dsn m.hops q e s same is
+same_announced y (Rerr dests) q e s same is = is
 
 pub from_then : (y : ℕ) (m : Message) (old : Table) (q : ℕ) (e s : Entry) → Same e s → IsFrom y m old q s → IsFrom y m old q e
 from_then y m old q e s same (inl near) = inl (same_near y q e s same near)
-from_then y m old q e s same (inr (inl told)) = inr (inl (same_told y m q e s same told))
+from_then y m old q e s same (inr (inl announced)) = inr (inl (same_announced y m q e s same announced))
 from_then y m old q e s same (inr (inr h)) = inr (inr (had_then same h))
 
 pub stems_then : (y : ℕ) (m : Message) (a b c : Table) → Stems y m a b → Stems y m b c → Stems y m a c
 stems_then y m a b c first second = record {
   from = λ q e is valid. elim (second.from q e is valid) [
     | inl near ↦ inl near
-    | inr (inl told) ↦ inr (inl told)
+    | inr (inl announced) ↦ inr (inl announced)
     | inr (inr h) ↦ from_then y m a q e h.entry h.same (first.from q h.entry h.there (sym h.same.flag ∙ valid))
   ];
 }
@@ -137,10 +137,10 @@ hearing_stems m rt y =
       | inr p ↦ inl (is_near_of y (merge s (neighbour_entry y)) p.0 p.1)
     ])
 
-pub route_stems : (y : ℕ) (m : Message) (rt : Table) (d n h : ℕ) → ((e : Entry) → is_route y d n h d e ≡ true → is_told y m d e ≡ true) → Stems y m rt (update rt d (route_entry n h y))
-route_stems y m rt d n h told =
+pub route_stems : (y : ℕ) (m : Message) (rt : Table) (d n h : ℕ) → ((e : Entry) → is_route y d n h d e ≡ true → is_announced y m d e ≡ true) → Stems y m rt (update rt d (route_entry n h y))
+route_stems y m rt d n h announced =
     let r : Entry = route_entry n h y in
-    let new : IsFrom y m rt d r = inr (inl (told r (is_route_of y d n h))) in
+    let new : IsFrom y m rt d r = inr (inl (announced r (is_route_of y d n h))) in
     update_stems y m rt d r new
     (λ s is. elim (known_shape s r refl) [
       | inl same ↦ inr (inr (record { entry = s; there = is; same = same }))

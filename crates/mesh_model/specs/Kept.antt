@@ -49,11 +49,11 @@ is_route y d n h q e = (q == d) && ((e.dsn == n) && ((e.hops == h + 1) && (e.nex
 
 -- the entry for q is the route that a message from y announces: a request announces one to its
 -- originator, a reply one to its destination
-abbrev pub is_told : ℕ → Message → ℕ → Entry → Bool
-is_told y (Pkt b d o) q e = false
-is_told y (Rreq m) q e = is_route y m.oip m.osn m.hops q e
-is_told y (Rrep m) q e = is_route y m.dip m.dsn m.hops q e
-is_told y (Rerr dests) q e = false
+abbrev pub is_announced : ℕ → Message → ℕ → Entry → Bool
+is_announced y (Pkt b d o) q e = false
+is_announced y (Rreq m) q e = is_route y m.oip m.osn m.hops q e
+is_announced y (Rrep m) q e = is_route y m.dip m.dsn m.hops q e
+is_announced y (Rerr dests) q e = false
 
 -- the list of this entry of x for q, once x has heard m with list l from y: x and y, if q is y and
 -- the entry leads to it directly; else l with x in front, if the entry is the route that m
@@ -61,7 +61,7 @@ is_told y (Rerr dests) q e = false
 abbrev pub entry_list : ℕ → ℕ → Message → List ℕ → ℕ → List ℕ → Option Entry → List ℕ
 entry_list x y m l q kept None = kept
 entry_list x y m l q kept (Some e) =
-    if is_near y q e then x ∷ y ∷ [] else if is_told y m q e then x ∷ l else kept
+    if is_near y q e then x ∷ y ∷ [] else if is_announced y m q e then x ∷ l else kept
 
 -- the lists of x's entries after that, when its table is `now`; data teach nothing
 abbrev pub entries_after : ℕ → ℕ → Message → List ℕ → Table → (ℕ → List ℕ) → ℕ → List ℕ

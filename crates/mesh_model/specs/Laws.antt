@@ -118,8 +118,8 @@ Account =
     + over_run (dropped_data t) (start variant firsts) events
 
 -- an event's outcome says how many data, whatever they are, the event doubles
-abbrev pub DoublingIsTold : Type 0
-DoublingIsTold = (w : World) (e : Event) → doubled_data any w e ≡ doubled_at (step w e)
+abbrev pub DoublingIsCounted : Type 0
+DoublingIsCounted = (w : World) (e : Event) → doubled_data any w e ≡ doubled_at (step w e)
 
 -- ---- honest hops
 

@@ -1,5 +1,5 @@
 //! Laws of all runs. Each function has an empty body and a contract that states a law.
-ghost use Rattle.mesh_model.specs.Laws.{StepKeeps, StepKeepsLoopSafe, StartKeeps, RunKeeps, NoCycleIn, LoopFree, BetterAlongEdges, WalkIsShort, RouteEnds, PickIsEnabled, PickIsLeast, StepBalances, Account, DoublingIsTold, StartHasWalks, StepKeepsWalks, HonestHops, OnlyNumbersFill};
+ghost use Rattle.mesh_model.specs.Laws.{StepKeeps, StepKeepsLoopSafe, StartKeeps, RunKeeps, NoCycleIn, LoopFree, BetterAlongEdges, WalkIsShort, RouteEnds, PickIsEnabled, PickIsLeast, StepBalances, Account, DoublingIsCounted, StartHasWalks, StepKeepsWalks, HonestHops, OnlyNumbersFill};
 
 /// Every event of the mesh keeps the invariant.
 pub fn step_keeps()
@@ -68,8 +68,8 @@ pub fn account()
 {}
 
 /// An event's outcome says how many data the event doubles.
-pub fn doubling_is_told()
-    ensures { DoublingIsTold }
+pub fn doubling_is_counted()
+    ensures { DoublingIsCounted }
 {}
 
 /// `HasWalks` holds of the opening world.

@@ -21,7 +21,7 @@ fn run_by<O: Sink>(
     input: &mut SureSource,
     out: &mut O,
 ) -> Status
-    ensures told { IsOutput (O.held out.old) (O.held out.new)
+    ensures written { IsOutput (O.held out.old) (O.held out.new)
         (text_by blocks variant input.old) result }
     ensures read { result ≢ Status.ReadFault }
     ensures write { HasStatusCause Status.WriteFault (O.faults out.old) (O.faults out.new) result }
@@ -47,7 +47,7 @@ fn run_into<'s, L: Lent>(
     requires name { out.ghost_name ≡ L.name }
     requires start { out.old ≡ L.start }
     ensures memory { result.ghost_name ≡ out.entry.ghost_name }
-    ensures told { IsOutput (Some []) (Some (take len.new result.now))
+    ensures written { IsOutput (Some []) (Some (take len.new result.now))
         (text_by blocks variant input.old) status.new }
     ensures room { length result.now ≡ length out.old }
     ensures behind { drop len.new result.now ≡ drop len.new out.old }
@@ -73,7 +73,7 @@ pub(crate) fn run_in_memory(
     out: &mut [u8],
     len: &mut usize,
 ) -> Status
-    ensures told { IsOutput (Some []) (Some (take len.new out.new))
+    ensures written { IsOutput (Some []) (Some (take len.new out.new))
         (text_by blocks variant input.now) result }
     ensures room { length out.new ≡ length out.old }
     ensures behind { drop len.new out.new ≡ drop len.new out.old }

@@ -211,8 +211,8 @@ module _ (p : PeersSeen) (started : Bool) (is : IsMesh p.mesh) where
   parses (Asks x) range time = line_of_one command.Ask x tt range
   parses Shows range time = line_said p started command.Show NoArgument tt tt ∙ named p.me _ range
 
-pub again : (p : PeersSeen) (a : AcceptedLine) (text : List ℕ) → IsMesh p.mesh → IsInRange p a → text ≡ words_of p.mesh a
+pub reread : (p : PeersSeen) (a : AcceptedLine) (text : List ℕ) → IsMesh p.mesh → IsInRange p a → text ≡ words_of p.mesh a
     → (started : Bool) → IsInTime started a → line_of p started text ≡ Ok a
-again p a text is range e started time =
+reread p a text is range e started time =
     let P : List ℕ → Type 0 = λ t. line_of p started t ≡ Ok a in
     subst P (sym e) (parses p started is a range time)

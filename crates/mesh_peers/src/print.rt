@@ -68,12 +68,12 @@ pub fn push_node_line(out: &mut LineBuf, peers: &Peers, line: &NodeLine<'_>)
 
 /// Replaces what `out` holds by the line in canonical form, without LF. A blank line leaves `out`
 /// empty.
-#[tactic(auto, using(crate::proofs::Allowed::again))]
+#[tactic(auto, using(crate::proofs::Allowed::reread))]
 pub fn print_node_line(line: &NodeLine<'_>, peers: &Peers, out: &mut LineBuf)
     requires { IsPrintable peers.now line.now }
     ensures text { out.new ≡ lines.words_of peers.now.mesh (accepted_of line.now) }
     ensures short { length out.new ≤ LONGEST_WRITTEN }
-    ensures again { (started : Bool) → lines.IsInTime started (accepted_of line.now)
+    ensures reread { (started : Bool) → lines.IsInTime started (accepted_of line.now)
         → lines.line_of peers.now started out.new ≡ Ok (accepted_of line.now) }
 {
     // The mesh has distinct addresses, each of 32 bits.

@@ -59,7 +59,7 @@ AllOfLink : List Event → Type 0
 AllOfLink [] = Unit {0}
 AllOfLink (e ∷ es) = IsOfLink e
 
-of_change : (due stands : Bool) (x y : ℕ) → AllOfLink (change due stands x y)
+of_change : (in_reach stands : Bool) (x y : ℕ) → AllOfLink (change in_reach stands x y)
 unfolding AllOfLink IsOfLink
 of_change true false x y = tt
 of_change false true x y = tt

@@ -8,7 +8,7 @@ use Rattle.mesh_text.specs.Schedule.{world_of}
 use Rattle.mesh_run.specs.Outputs.{IsOutputOf}
 use Rattle.mesh_run.specs.declared.say.Say.TheVariants.{All}
 use Rattle.mesh_run.specs.declared.status.Status.{Status}
-use Rattle.mesh_grid.specs.Links.{is_due}
+use Rattle.mesh_grid.specs.Links.{is_in_reach}
 use Rattle.mesh_grid.specs.Text.{RunState, opening, text_on, text_of_input}
 use Rattle.mesh_grid.specs.Runs.{AreDone, run_state_at, state_within, world_after, IsOfEvents}
 
@@ -25,7 +25,7 @@ IsOutputFrom reach m bytes left before now s =
 
 -- its worlds are those of its events: the last one, the one after each line, and the one after each
 -- event of the next line. In none of them does a destination have a loop; and after each line the
--- links that stand are those that are due between nodes with places
+-- links that stand are those between nodes with places within reach of each other
 pub record IsPlacedRun (reach : ℕ) (schedule : List ℕ) : Type 0 where
   pub worlds : let w = text_of_input reach Base schedule in
       world_of w.after.run ≡ world_after reach Base schedule w.after.run.sums.events
@@ -35,7 +35,7 @@ pub record IsPlacedRun (reach : ℕ) (schedule : List ℕ) : Type 0 where
   pub states_loop_free : (i k d : ℕ)
       → ¬ (Cycle (world_of (state_within reach Base schedule i k)) d)
   pub links : (i a b : ℕ) → let m = run_state_at reach Base schedule i in
-      are_linked (world_of m.run).links a b ≡ is_due reach m.places a b
+      are_linked (world_of m.run).links a b ≡ is_in_reach reach m.places a b
 
 -- such a run of the schedule that a source had has written and answered this
 abbrev pub IsRun : ℕ → List ℕ → Option (List ℕ) → Option (List ℕ) → Option (List ℕ) → Status

@@ -17,7 +17,7 @@ use std::alloc::Global;
 
 // Runs a schedule with places.
 fn run<I: Source, O: Sink>(alloc: Global, reach: u32, input: &mut I, out: &mut O) -> Status
-    ensures told { IfSome (I.left input.old) (λ bytes. IsRun reach bytes
+    ensures known { IfSome (I.left input.old) (λ bytes. IsRun reach bytes
         (I.left input.new) (O.held out.old) (O.held out.new) result) }
     ensures end { result ≡ Status.Done → IsAtEnd (I.left input.new) }
     ensures read { HasSourceCause (I.faults input.old) (I.faults input.new) result }

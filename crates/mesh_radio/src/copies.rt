@@ -202,7 +202,7 @@ impl Copies {
         requires room { 1 ≤ self.old.room }
         requires fits { IsCopyWithin self.old.flying id self.old.most }
         requires next { self.old.next_copy + 1 < 2 ^ 64 }
-        ensures told { let copy = find_copy self.old.flying id in
+        ensures given { let copy = find_copy self.old.flying id in
             result ≡ option_map (λ c. (self.old.next_copy, c.to)) copy }
         ensures doubled { self.new ≡ with_second self.old (find_copy self.old.flying id) }
     {

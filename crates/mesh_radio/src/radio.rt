@@ -168,7 +168,7 @@ impl Radio {
     pub fn double(&mut self, id: u64) -> Option<(u64, usize)>
         requires room { (1 ≤ self.old.room) × (longest_packet ≤ self.old.most) }
         requires next { self.old.next_copy + MOST_NODES < 2 ^ 64 }
-        ensures told { let copy = find_copy self.old.flying id in
+        ensures given { let copy = find_copy self.old.flying id in
             result ≡ option_map (λ c. (self.old.next_copy, c.to)) copy }
         ensures doubled { self.new ≡ with_double self.old (find_copy self.old.flying id) }
     {

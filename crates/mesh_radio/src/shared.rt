@@ -57,7 +57,7 @@ fn split(alloc: Global, shared: Shared) -> (Shared, Option<Shared>)
     match shared.kept {
         Kept::Counted(counted) => twice(counted),
         Kept::Own(bytes) => {
-            if let Some(short) = bytes.again() {
+            if let Some(short) = bytes.clone_inline() {
                 return (Shared::own(bytes), Some(Shared::own(short)));
             }
             match Rc::new(alloc, bytes) {

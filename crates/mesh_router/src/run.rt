@@ -166,7 +166,7 @@ fn route<R: LineReader, O: Sink, L: Link>(
     ensures same { R.name lines.new ≡ R.name lines.old }
     ensures same_out { routing.new.out.ghost_name ≡ routing.old.out.ghost_name }
     ensures same_link { routing.new.link.ghost_name ≡ routing.old.link.ghost_name }
-    ensures told { IfSome (R.left lines.old) (λ script.
+    ensures known { IfSome (R.left lines.old) (λ script.
         IsScriptRun script (L.arrived routing.old.link.now)
         (O.held routing.old.out.now, L.sent routing.old.link.now)
         (O.held routing.new.out.now, L.sent routing.new.link.now) result) }
@@ -197,7 +197,7 @@ pub fn run_script<I: Source, O: Sink, L: Link>(
     // What is written and sent is the log of the script with what the link's receive calls found,
     // and the answer is the script's verdict. After a fault, or lack of memory, a prefix of that
     // log is written and sent: a datagram is sent only once all text before it is written.
-    ensures told { IfSome (I.left input.old) (λ script. IsScriptRun script (L.arrived link.old)
+    ensures known { IfSome (I.left input.old) (λ script. IsScriptRun script (L.arrived link.old)
         (O.held out.old, L.sent link.old) (O.held out.new, L.sent link.new) result) }
 
     // `Done` only if the script was read to its end.

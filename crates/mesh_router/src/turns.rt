@@ -51,7 +51,7 @@ fn push_refusal(out: &mut LineBuf, why: WireError)
 }
 
 #[tactic(auto, using(std::proofs::lemmas::List::append_assoc))]
-fn push_unreadable(out: &mut LineBuf, mesh: &Mesh, from: usize, why: WireError)
+fn push_malformed(out: &mut LineBuf, mesh: &Mesh, from: usize, why: WireError)
     requires { from < length mesh.now }
     ensures { out.new ≡ drop_line mesh.now from (refusal_words why) }
 {
@@ -62,7 +62,7 @@ fn push_unreadable(out: &mut LineBuf, mesh: &Mesh, from: usize, why: WireError)
 }
 
 // Writes that a packet from this node can't be read.
-fn put_unreadable<O: Sink>(
+fn put_malformed<O: Sink>(
     mesh: &Mesh,
     from: usize,
     why: WireError,
@@ -74,7 +74,7 @@ fn put_unreadable<O: Sink>(
         (drop_line mesh.now from (refusal_words why)) result }
     ensures cause { HasCause (O.faults out.old) (O.faults out.new) result }
 {
-    push_unreadable(buf, mesh, from, why);
+    push_malformed(buf, mesh, from, why);
     put_all(out, buf.as_slice())
 }
 
@@ -147,9 +147,9 @@ impl Router {
                 put_all(out, b"  idle\n")?;
                 Ok(false)
             }
-            Err(TurnError::Unreadable { from, why }) => {
+            Err(TurnError::Malformed { from, why }) => {
                 self.dropped += 1;
-                put_unreadable(self.peers.mesh(), from, why, &mut scratch.line, out)?;
+                put_malformed(self.peers.mesh(), from, why, &mut scratch.line, out)?;
                 Ok(true)
             }
             Err(TurnError::Stranger { from, who }) => {

@@ -33,7 +33,7 @@ pub fn do_input<S: Steps, I: Source, O: Sink>(
 ) -> Status
     requires few { running.old.at.lines < most_lines_before_run }
     requires steps { running.old.at.steps < most_steps_before_run }
-    ensures told { IfSome (I.left input.old) (λ bytes.
+    ensures known { IfSome (I.left input.old) (λ bytes.
         IsOutputFrom running.old.say running.old.at bytes
         (I.left input.new) (O.held out.old) (O.held out.new) result) }
     ensures after { result ≡ Status.Done → IfSome (I.left input.old)
@@ -78,7 +78,7 @@ pub fn drive<S: Steps, I: Source, O: Sink>(
     // the text's verdict. After a failed write or a lack of memory, a prefix of that part is
     // written; after a failed read, what `say` asks for of the text of the lines that were read
     // whole.
-    ensures told { IfSome (I.left input.old) (λ bytes. IsOutputFrom say start bytes
+    ensures known { IfSome (I.left input.old) (λ bytes. IsOutputFrom say start bytes
         (I.left input.new) (O.held out.old) (O.held out.new) result.0) }
 
     // The state is the one that the run came to. Its world has the invariant and no loop, and the
@@ -129,7 +129,7 @@ pub fn run<S: Steps, I: Source, O: Sink>(
     // What is written is the text of the input, or only its last line if `quiet`, and the answer is
     // its verdict. After a failed write or a lack of memory, a prefix of that is written; after a
     // failed read, and unless `quiet`, the text of the lines that were read whole.
-    ensures told { IfSome (I.left input.old) (λ bytes. IsOutputFrom (say_by quiet)
+    ensures known { IfSome (I.left input.old) (λ bytes. IsOutputFrom (say_by quiet)
         (opening variant) bytes (I.left input.new) (O.held out.old) (O.held out.new) result) }
 
     // In no world to which the lines lead, after any number of their events, does a destination

@@ -83,7 +83,7 @@ pub fn settle<S: Steps, O: Sink>(
     out: &mut O,
 ) -> Result<Option<Verdict>, Fault>
     requires { CanBeTold at.old did }
-    ensures told { IsSettled at.old (O.held out.old) (O.held out.new) did.entry result }
+    ensures written { IsSettled at.old (O.held out.old) (O.held out.new) did.entry result }
     ensures same { at.new ≡ at.old }
     ensures early { EndsEarly (λ v. v ≡ Verdict.Finished) result }
     ensures cause { HasSettledCause (O.faults out.old) (O.faults out.new) did.entry result }

@@ -233,7 +233,7 @@ impl<S: Steps> State<S> {
         requires event { IsEvent (length self.old.mesh) (event_of e.now) }
         requires few { self.old.steps < most_steps }
         ensures done { OnOk result (IsAnswered self.old (event_of e.now) self.new) }
-        ensures told { wanted ≡ true → OnOk result
+        ensures left { wanted ≡ true → OnOk result
             (IsAnswer self.old (event_of e.now) answer.new self.new out.new.items) }
         ensures refused { IfErr result (IsRefusal self.old (event_of e.now)) }
         ensures same { OnErr result (self.new ≡ self.old) }

@@ -61,9 +61,9 @@ echo mesh started line (Err f) is = tt
 
 -- ---- what is written is read
 
-pub again : (mesh : Nodes) (a : AcceptedLine) (text : List ℕ) → IsMesh mesh → IsInRange mesh a → text ≡ words_of mesh a
+pub reread : (mesh : Nodes) (a : AcceptedLine) (text : List ℕ) → IsMesh mesh → IsInRange mesh a → text ≡ words_of mesh a
     → (started : Bool) → IsInTime started a → line_of mesh started text ≡ Ok a
-again mesh a text is range e started time =
+reread mesh a text is range e started time =
     let P : List ℕ → Type 0 = λ t. line_of mesh started t ≡ Ok a in
     subst P (sym e) (printed_line_parses mesh started a is range time)
 

@@ -13,10 +13,11 @@ mod words;
 
 pub use forms::{Arguments, Read, arguments_of};
 pub use line::Line;
+pub use mesh_base::{ADDRESS_WIDTH, NUMBER_WIDTH};
 pub use mesh_grammar::{Command, LineFault, Span};
 pub use parse::{indexed, parse_line};
 pub use print::{
-    ADDRESS_ARGUMENT, ADDRESS_WIDTH, LONGEST_WRITTEN, NUMBER_ARGUMENT, NUMBER_WIDTH, print_line,
-    push_event, push_line, push_written,
+    ADDRESS_ARGUMENT, LONGEST_WRITTEN, NUMBER_ARGUMENT, print_line, push_event, push_line,
+    push_written,
 };
 pub use words::{SpannedAddr, is_blank, is_word, next_at, span_at};

@@ -17,14 +17,9 @@ ghost use Rattle.mesh_script.specs.Seen.{accepted_of, IsPrintable};
 use crate::forms::Arguments;
 use crate::line::Line;
 use mesh_base::{
-    Addr, Event, LINE_CAPACITY, LONGEST_DATUM, LineBuf, Mesh, push_number, push_text, write_dotted,
+    ADDRESS_WIDTH, Addr, Event, LINE_CAPACITY, LONGEST_DATUM, LineBuf, Mesh, NUMBER_WIDTH,
+    push_number, push_text, write_dotted,
 };
-
-/// The most bytes of a written address: four numbers of three digits, and three dots.
-pub const ADDRESS_WIDTH: usize = 4 * 3 + 3;
-
-/// The most bytes of a written number of 64 bits.
-pub const NUMBER_WIDTH: usize = 20;
 
 /// The most bytes of an address as an argument, with the space before it.
 pub const ADDRESS_ARGUMENT: usize = 1 + ADDRESS_WIDTH;
@@ -195,12 +190,12 @@ pub fn push_line(out: &mut LineBuf, mesh: &Mesh, line: &Line<'_>)
 
 /// Replaces what `out` held by the line in canonical form, without LF. A blank line leaves `out`
 /// empty.
-#[tactic(auto, using(crate::proofs::Allowed::again))]
+#[tactic(auto, using(crate::proofs::Allowed::reread))]
 pub fn print_line(line: &Line<'_>, mesh: &Mesh, out: &mut LineBuf)
     requires { IsPrintable mesh.now line.now }
     ensures text { out.new ≡ lines.words_of mesh.now (accepted_of line.now) }
     ensures short { length out.new ≤ LONGEST_WRITTEN }
-    ensures again { (started : Bool) → IsInTime started (accepted_of line.now)
+    ensures reread { (started : Bool) → IsInTime started (accepted_of line.now)
         → line_of mesh.now started out.new ≡ Ok (accepted_of line.now) }
 {
     // The mesh has distinct addresses, each of 32 bits.

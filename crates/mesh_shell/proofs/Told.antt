@@ -12,7 +12,7 @@ use Rattle.mesh_shell.specs.Fold.{RunText, whole, lines_before, finished_run, te
 use Rattle.mesh_shell.specs.Scripts.{size_of_pieces}
 use Rattle.mesh_shell.specs.Outputs.{IsEndRun, IsCutShort, IsOutputOf}
 use Rattle.mesh_shell.specs.Runs.{End, AtEnd, AtLine, AtWait, AtFault, HasEnded, IsCutAt, LeavesOf, IsRan}
-use Rattle.mesh_shell.specs.Scripted.{told_by, HasLed, HasStopped, HasFinished, HasBroken, IsCut}
+use Rattle.mesh_shell.specs.Scripted.{written_by, HasLed, HasStopped, HasFinished, HasBroken, IsCut}
 use Rattle.mesh_shell.specs.ScriptedLaws.{Stays, Joins, before_both}
 use Rattle.mesh_shell.specs.declared.fault.Fault.{Fault}
 use Rattle.mesh_shell.specs.declared.fault.Fault.TheVariants.{ReadFault, WriteFault, NoMemory}
@@ -51,7 +51,7 @@ head_broken {M} {V} start others head (Some b) left before now fault from read f
     (AppendsPrefix-more before now head _ _ (append_assoc head (others b).lines (others b).last) front))
 
 -- lines were done, from a state on before which its head was written, and then the run has ended
-module _ {S V O : Type 0} (script : scripts.Ghosts S V) (sink : sinks.Ghosts O) (most : Limits) (m : S) (before : Option (List ℕ)) (old mid new : Scripted S O) (answer : Result V Fault) (done : List Piece) (led : HasLed script sink old done mid) (same : old.script.now ≡ m) (grown : Appends before (told_by sink old) (script.fold.head m)) where
+module _ {S V O : Type 0} (script : scripts.Ghosts S V) (sink : sinks.Ghosts O) (most : Limits) (m : S) (before : Option (List ℕ)) (old mid new : Scripted S O) (answer : Result V Fault) (done : List Piece) (led : HasLed script sink old done mid) (same : old.script.now ≡ m) (grown : Appends before (written_by sink old) (script.fold.head m)) where
   so_far : List ℕ
   so_far = script.fold.head m ++ led.text
 
@@ -68,9 +68,9 @@ module _ {S V O : Type 0} (script : scripts.Ghosts S V) (sink : sinks.Ghosts O) 
       ∙ ap (lines_before (script.fold.head m)) (led.goes later)
       ∙ before_both (script.fold.head m) led.text (text_from script.fold mid.script.now later)
 
-  grown_so_far : Appends before (told_by sink mid) so_far
+  grown_so_far : Appends before (written_by sink mid) so_far
   unfolding so_far
-  grown_so_far = Appends-join before (told_by sink old) (told_by sink mid) (script.fold.head m) led.text (script.fold.head m ++ led.text) refl grown led.grown
+  grown_so_far = Appends-join before (written_by sink old) (written_by sink mid) (script.fold.head m) led.text (script.fold.head m ++ led.text) refl grown led.grown
 
   -- it was told so far
   front_of : (bytes : List ℕ) (later : List Piece) (now : Option (List ℕ)) → pieces_within most bytes ≡ done ++ later → Appends before now so_far → AppendsPrefix before now (whole (start bytes))
@@ -80,14 +80,14 @@ module _ {S V O : Type 0} (script : scripts.Ghosts S V) (sink : sinks.Ghosts O) 
       (record { prefix = so_far; rest = w.lines ++ w.last; whole = append_assoc so_far w.lines w.last; grown = told })
 
   -- and the rest then
-  tells : (bytes : List ℕ) (later : List Piece) (left : Option (List ℕ)) → pieces_within most bytes ≡ done ++ later → ¬ IsErrOf answer ReadFault → IsWritten (text_from script.fold mid.script.now later) (told_by sink mid) (told_by sink new) answer
-      → IsOutputOf start bytes left before (told_by sink new) answer
+  tells : (bytes : List ℕ) (later : List Piece) (left : Option (List ℕ)) → pieces_within most bytes ≡ done ++ later → ¬ IsErrOf answer ReadFault → IsWritten (text_from script.fold mid.script.now later) (written_by sink mid) (written_by sink new) answer
+      → IsOutputOf start bytes left before (written_by sink new) answer
   tells bytes later left all read t =
-      output_from start bytes left before (told_by sink new) answer read
-      (written_before (start bytes) (text_from script.fold mid.script.now later) so_far before (told_by sink mid) (told_by sink new) answer (text_all bytes later all) grown_so_far t)
+      output_from start bytes left before (written_by sink new) answer read
+      (written_before (start bytes) (text_from script.fold mid.script.now later) so_far before (written_by sink mid) (written_by sink new) answer (text_all bytes later all) grown_so_far t)
 
   -- a read failed
-  cut_short : (bytes : List ℕ) (later : List Piece) (left : Option (List ℕ)) → pieces_within most bytes ≡ done ++ later → IsCutAt most bytes left done → IsCutShort start bytes left before (told_by sink mid)
+  cut_short : (bytes : List ℕ) (later : List Piece) (left : Option (List ℕ)) → pieces_within most bytes ≡ done ++ later → IsCutAt most bytes left done → IsCutShort start bytes left before (written_by sink mid)
   cut_short bytes later left all cut =
       let w : start cut.lines ≡ lines_before so_far (finished_run (script.fold.ending mid.script.now)) =
       text_all cut.lines [] (cut.pieces ∙ sym (append-nil done)) ∙ ap (lines_before so_far) (text_from-end script.fold mid.script.now) in
@@ -98,40 +98,40 @@ module _ {S V O : Type 0} (script : scripts.Ghosts S V) (sink : sinks.Ghosts O) 
         unended = cut.unended;
         consumed = cut.consumed;
         done = ap (λ (x : RunText S V). x.complete) w;
-        grown = subst (λ l. Appends before (told_by sink mid) l) (sym (ap (λ (x : RunText S V). x.lines) w ∙ append-nil so_far)) grown_so_far;
-        prefix = front_of bytes later (told_by sink mid) all grown_so_far;
+        grown = subst (λ l. Appends before (written_by sink mid) l) (sym (ap (λ (x : RunText S V). x.lines) w ∙ append-nil so_far)) grown_so_far;
+        prefix = front_of bytes later (written_by sink mid) all grown_so_far;
       }
 
   told_at : (bytes : List ℕ) (later : List Piece) (left : Option (List ℕ)) (faults now : ℕ) (at : End) → pieces_within most bytes ≡ done ++ later → HasEnded (runner_of script sink) at mid new answer → LeavesOf most (Some bytes) left faults now done later at
-      → IsOutputOf start bytes left before (told_by sink new) answer
+      → IsOutputOf start bytes left before (written_by sink new) answer
   told_at bytes later left faults now AtEnd all ended leaves =
       tells bytes later left all ended.read
-      (subst (λ (w : RunText S V). IsWritten w (told_by sink mid) (told_by sink new) answer) (sym (ap (text_from script.fold mid.script.now) leaves.0 ∙ text_from-end script.fold mid.script.now))
-      (end_told (script.fold.ending mid.script.now) new.script.now (told_by sink mid) (told_by sink new) answer ended.told))
+      (subst (λ (w : RunText S V). IsWritten w (written_by sink mid) (written_by sink new) answer) (sym (ap (text_from script.fold mid.script.now) leaves.0 ∙ text_from-end script.fold mid.script.now))
+      (end_told (script.fold.ending mid.script.now) new.script.now (written_by sink mid) (written_by sink new) answer ended.told))
   told_at bytes later left faults now (AtLine piece) all ended leaves =
       tells bytes later left all ended.read
-      (subst (λ (ps : List Piece). IsWritten (text_from script.fold mid.script.now ps) (told_by sink mid) (told_by sink new) answer) (sym (leaves.0).1)
-      (last_told script.fold mid.script.now piece answer (told_by sink mid) (told_by sink new) ended.told (leaves.0).0))
+      (subst (λ (ps : List Piece). IsWritten (text_from script.fold mid.script.now ps) (written_by sink mid) (written_by sink new) answer) (sym (leaves.0).1)
+      (last_told script.fold mid.script.now piece answer (written_by sink mid) (written_by sink new) ended.told (leaves.0).0))
   told_at bytes later left faults now AtWait all ended leaves =
-      subst (λ (a : Result V Fault). IsOutputOf start bytes left before (told_by sink new) a) (sym ended.is)
-      (front_of bytes later (told_by sink new) all (Appends-keeps before (told_by sink mid) (told_by sink new) so_far grown_so_far ended.kept))
+      subst (λ (a : Result V Fault). IsOutputOf start bytes left before (written_by sink new) a) (sym ended.is)
+      (front_of bytes later (written_by sink new) all (Appends-keeps before (written_by sink mid) (written_by sink new) so_far grown_so_far ended.kept))
   told_at bytes later left faults now AtFault all ended leaves =
-      subst (λ (a : Result V Fault). IsOutputOf start bytes left before (told_by sink new) a) (sym ended.is)
-      (subst (λ (s : Scripted S O). IsCutShort start bytes left before (told_by sink s)) (sym ended.same) (cut_short bytes later left all leaves.cut))
+      subst (λ (a : Result V Fault). IsOutputOf start bytes left before (written_by sink new) a) (sym ended.is)
+      (subst (λ (s : Scripted S O). IsCutShort start bytes left before (written_by sink s)) (sym ended.same) (cut_short bytes later left all leaves.cut))
 
   pub told_of : (bytes left : Option (List ℕ)) (later : List Piece) (faults now : ℕ) (at : End) → IfSome bytes (λ b. pieces_within most b ≡ done ++ later) → HasEnded (runner_of script sink) at mid new answer → LeavesOf most bytes left faults now done later at
-      → IfSome bytes (λ b. IsOutputOf (text_on script.fold most m) b left before (told_by sink new) answer)
+      → IfSome bytes (λ b. IsOutputOf (text_on script.fold most m) b left before (written_by sink new) answer)
   unfolding start
   told_of None left later faults now at all ended leaves = tt
   told_of (Some b) left later faults now at all ended leaves = told_at b later left faults now at all ended leaves
 
   -- the state to which the input leads
-  pub after_of : (bytes : Option (List ℕ)) (later : List Piece) → IfSome bytes (λ b. pieces_within most b ≡ done ++ later) → later ≡ [] → IsEndRun (script.fold.ending mid.script.now) new.script.now (told_by sink mid) (told_by sink new) answer
+  pub after_of : (bytes : Option (List ℕ)) (later : List Piece) → IfSome bytes (λ b. pieces_within most b ≡ done ++ later) → later ≡ [] → IsEndRun (script.fold.ending mid.script.now) new.script.now (written_by sink mid) (written_by sink new) answer
       → IfOk answer (λ v. script.is_final v → IfSome bytes (λ b. new.script.now ≡ (text_on script.fold most m b).after))
   unfolding start
   after_of bytes later all none told = by_answer answer bytes all told
     where
-      by_answer : (a : Result V Fault) (bytes : Option (List ℕ)) → IfSome bytes (λ b. pieces_within most b ≡ done ++ later) → IsEndRun (script.fold.ending mid.script.now) new.script.now (told_by sink mid) (told_by sink new) a
+      by_answer : (a : Result V Fault) (bytes : Option (List ℕ)) → IfSome bytes (λ b. pieces_within most b ≡ done ++ later) → IsEndRun (script.fold.ending mid.script.now) new.script.now (written_by sink mid) (written_by sink new) a
           → IfOk a (λ v. script.is_final v → IfSome bytes (λ b. new.script.now ≡ (text_on script.fold most m b).after))
       by_answer (Err fault) bytes all told = tt
       by_answer (Ok v) None all told = λ f. tt
@@ -162,8 +162,8 @@ if_final script sink most bytes left faults now mid new answer done later AtWait
 if_final script sink most bytes left faults now mid new answer done later AtFault P ended leaves then = failed_final answer ReadFault script.is_final P ended.is
 
 module _ {S V O L : Type 0} (script : scripts.Ghosts S V) (sink : sinks.Ghosts O) (l : readers.Ghosts L) (lines after : L) (old new : Scripted S O) (answer : Result V Fault) (ran : IsRan (runner_of script sink) l lines after old new answer) where
-  pub run_told : (m : S) (before : Option (List ℕ)) → old.script.now ≡ m → Appends before (told_by sink old) (script.fold.head m)
-      → IfSome (l.left lines) (λ bytes. IsOutputOf (text_on script.fold (l.limits lines) m) bytes (l.left after) before (told_by sink new) answer)
+  pub run_told : (m : S) (before : Option (List ℕ)) → old.script.now ≡ m → Appends before (written_by sink old) (script.fold.head m)
+      → IfSome (l.left lines) (λ bytes. IsOutputOf (text_on script.fold (l.limits lines) m) bytes (l.left after) before (written_by sink new) answer)
   run_told m before same grown =
       told_of script sink (l.limits lines) m before old ran.mid new answer ran.done ran.led same grown (l.left lines) (l.left after) ran.later (l.faults lines) (l.faults after) ran.at ran.all ran.ended ran.leaves
 
@@ -172,7 +172,7 @@ module _ {S V O L : Type 0} (script : scripts.Ghosts S V) (sink : sinks.Ghosts O
   if_ended P then =
       if_final script sink (l.limits lines) (l.left lines) (l.left after) (l.faults lines) (l.faults after) ran.mid new answer ran.done ran.later ran.at P ran.ended ran.leaves then
 
-  pub run_after : (m : S) (before : Option (List ℕ)) → old.script.now ≡ m → Appends before (told_by sink old) (script.fold.head m)
+  pub run_after : (m : S) (before : Option (List ℕ)) → old.script.now ≡ m → Appends before (written_by sink old) (script.fold.head m)
       → IfOk answer (λ v. script.is_final v → IfSome (l.left lines) (λ bytes. new.script.now ≡ (text_on script.fold (l.limits lines) m bytes).after))
   run_after m before same grown =
       if_ended _ (λ ended leaves. after_of script sink (l.limits lines) m before old ran.mid new answer ran.done ran.led same grown (l.left lines) ran.later ran.all leaves.0 ended.told)

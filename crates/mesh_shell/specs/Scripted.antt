@@ -15,8 +15,8 @@ use Rattle.mesh_shell.specs.declared.scripted.Scripted.{Scripted}
 
 -- what its buffer's sink holds and then what is gathered, if that is known; and how often that sink
 -- has failed
-abbrev pub told_by : {S O : Type 0} → sinks.Ghosts O → Scripted S O → Option (List ℕ)
-told_by sink s = held_by sink.held s.out.now
+abbrev pub written_by : {S O : Type 0} → sinks.Ghosts O → Scripted S O → Option (List ℕ)
+written_by sink s = held_by sink.held s.out.now
 
 abbrev pub faults_by : {S O : Type 0} → sinks.Ghosts O → Scripted S O → ℕ
 faults_by sink s = sink.faults (inner_of s.out.now)
@@ -33,7 +33,7 @@ pub record HasLed {S V O : Type 0} (script : scripts.Ghosts S V) (sink : sinks.G
   pub text : List ℕ
   pub goes : (others : List Piece) → text_from script.fold old.script.now (lines ++ others)
       ≡ lines_before text (text_from script.fold new.script.now others)
-  pub grown : Appends (told_by sink old) (told_by sink new) text
+  pub grown : Appends (written_by sink old) (written_by sink new) text
   pub leads : script.leads old.script.now (size_of_pieces lines) new.script.now
   pub write : faults_by sink new ≡ faults_by sink old
 
@@ -42,8 +42,8 @@ pub record HasStopped {S V O : Type 0} (script : scripts.Ghosts S V) (sink : sin
     (old : Scripted S O) (piece : Piece) (new : Scripted S O) (answer : Result V Fault)
     : Type 0 where
   pub same : AreSame old new
-  pub told : IsLastRun (script.fold.outcome old.script.now piece) (told_by sink old)
-      (told_by sink new) answer
+  pub told : IsLastRun (script.fold.outcome old.script.now piece) (written_by sink old)
+      (written_by sink new) answer
   pub early : IfOk answer (λ v. ¬ (script.is_final v))
   pub write : HasFaultCause WriteFault (faults_by sink old) (faults_by sink new) answer
   pub read : ¬ IsErrOf answer ReadFault
@@ -52,8 +52,8 @@ pub record HasStopped {S V O : Type 0} (script : scripts.Ghosts S V) (sink : sin
 pub record HasFinished {S V O : Type 0} (script : scripts.Ghosts S V) (sink : sinks.Ghosts O)
     (old new : Scripted S O) (answer : Result V Fault) : Type 0 where
   pub same : AreSame old new
-  pub told : IsEndRun (script.fold.ending old.script.now) new.script.now (told_by sink old)
-      (told_by sink new) answer
+  pub told : IsEndRun (script.fold.ending old.script.now) new.script.now (written_by sink old)
+      (written_by sink new) answer
   pub leads : OnOk answer (script.leads old.script.now 0 new.script.now)
   pub sound : OnOk answer (script.is_sound new.script.now)
   pub write : HasFaultCause WriteFault (faults_by sink old) (faults_by sink new) answer
@@ -64,7 +64,7 @@ pub record HasBroken {S V O : Type 0} (sink : sinks.Ghosts O) (old new : Scripte
     (answer : Result V Fault) : Type 0 where
   pub same : AreSame old new
   pub is : answer ≡ Err WriteFault
-  pub kept : Keeps (told_by sink old) (told_by sink new)
+  pub kept : Keeps (written_by sink old) (written_by sink new)
   pub write : HasFaultCause WriteFault (faults_by sink old) (faults_by sink new) answer
 
 -- a read has failed

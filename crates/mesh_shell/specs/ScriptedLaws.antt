@@ -5,7 +5,7 @@ use Rattle.mesh_io.proofs.Writing.{Appends-none, Appends-join}
 use Rattle.mesh_shell.specs.Pieces.{Piece}
 use Rattle.mesh_shell.specs.Fold.{RunText, lines_before, text_from}
 use Rattle.mesh_shell.specs.Scripts.{size_of_pieces}
-use Rattle.mesh_shell.specs.Scripted.{told_by, AreSame, HasLed}
+use Rattle.mesh_shell.specs.Scripted.{written_by, AreSame, HasLed}
 use Rattle.mesh_shell.specs.declared.script.Script as scripts
 use Rattle.mesh_shell.specs.declared.scripted.Scripted.{Scripted}
 
@@ -40,7 +40,7 @@ stays_there script sink stays a = record {
   same = record { script = refl; out = refl };
   text = [];
   goes = λ others. refl;
-  grown = Appends-none (told_by sink a);
+  grown = Appends-none (written_by sink a);
   leads = stays a.script.now 0;
   write = refl;
 }
@@ -58,7 +58,7 @@ joins_both script sink joins a b c lines others p q = record {
       ∙ p.goes (others ++ more)
       ∙ ap (lines_before p.text) (q.goes more)
       ∙ before_both p.text q.text (text_from script.fold c.script.now more);
-  grown = Appends-join (told_by sink a) (told_by sink b) (told_by sink c) p.text q.text
+  grown = Appends-join (written_by sink a) (written_by sink b) (written_by sink c) p.text q.text
       (p.text ++ q.text) refl p.grown q.grown;
   leads = subst (λ n. script.leads a.script.now n c.script.now)
       (sym (size_of_both lines others))

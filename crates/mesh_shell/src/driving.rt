@@ -26,7 +26,7 @@ fn do_gathered<S: Script, R: LineReader, O: Sink>(
     requires pending { R.pending lines.old ≡ [] }
     requires given { R.given lines.old ≡ 0 }
     ensures same { R.name lines.new ≡ R.name lines.old }
-    ensures told { IfSome (R.left lines.old) (λ bytes.
+    ensures known { IfSome (R.left lines.old) (λ bytes.
         IsOutputFrom S.fold (R.limits lines.old) script.old bytes (R.left lines.new)
         (held_by O.held buffer.old) (held_by O.held buffer.new) result) }
     ensures after { IfOk result (λ v. S.is_final v → IfSome (R.left lines.old)
@@ -66,7 +66,7 @@ fn do_through<'s, S: Script, R: LineReader, O: Sink, L: Loan>(
     requires start { O.held out.now ≡ L.start }
     ensures sink { result.ghost_name ≡ out.entry.ghost_name }
     ensures same { R.name lines.new ≡ R.name lines.old }
-    ensures told { IfSome (R.left lines.old) (λ bytes.
+    ensures known { IfSome (R.left lines.old) (λ bytes.
         IsOutputFrom S.fold (R.limits lines.old) script.old bytes (R.left lines.new)
         (O.held out.entry.now) (O.held result.now) answer.new) }
     ensures after { IfOk answer.new (λ v. S.is_final v → IfSome (R.left lines.old)
@@ -96,7 +96,7 @@ fn do_buffered<S: Script, R: LineReader, O: Sink>(
     requires pending { R.pending lines.old ≡ [] }
     requires given { R.given lines.old ≡ 0 }
     ensures same { R.name lines.new ≡ R.name lines.old }
-    ensures told { IfSome (R.left lines.old) (λ bytes.
+    ensures known { IfSome (R.left lines.old) (λ bytes.
         IsOutputFrom S.fold (R.limits lines.old) script.old bytes (R.left lines.new)
         (O.held out.old) (O.held out.new) result) }
     ensures after { IfOk result (λ v. S.is_final v → IfSome (R.left lines.old)
@@ -139,7 +139,7 @@ pub fn run<S: Script, I: Source, O: Sink, const CAPACITY: usize>(
     // What is written is the text of the input, and the answer is its verdict. If a write failed,
     // or memory ran out, what is written is a prefix of that text; if a read failed, it is the text
     // of the lines that were read whole.
-    ensures told { IfSome (I.left input.old) (λ bytes.
+    ensures known { IfSome (I.left input.old) (λ bytes.
         IsOutputFrom S.fold most script.old bytes (I.left input.new)
         (O.held out.old) (O.held out.new) result) }
 

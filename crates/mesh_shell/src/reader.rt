@@ -47,7 +47,7 @@ pub trait LineReader {
     fn advance(&mut self) -> Result<bool, LineError>
         ensures same { name self.new ≡ name self.old }
         ensures most { limits self.new ≡ limits self.old }
-        ensures told { IfSome (prepend_known (pending self.old) (left self.old)) (λ bytes.
+        ensures known { IfSome (prepend_known (pending self.old) (left self.old)) (λ bytes.
             Tells (limits self.old) (given self.old) bytes result (found self.new)
             (given self.new) (prepend_known (pending self.new) (left self.new))) }
         ensures unasked { decides (limits self.old) (given self.old) (ended self.old)

@@ -92,7 +92,7 @@ impl<S: Script, O: Sink> Scripted<'_, S, O> {
         ensures script { self.new.script.ghost_name ≡ self.old.script.ghost_name }
         ensures out { self.new.out.ghost_name ≡ self.old.out.ghost_name }
         ensures same { R.name lines.new ≡ R.name lines.old }
-        ensures told { IfSome (R.left lines.old) (λ bytes.
+        ensures known { IfSome (R.left lines.old) (λ bytes.
             IsOutputFrom S.fold (R.limits lines.old) self.old.script.now bytes
             (R.left lines.new)
             (held_by O.held self.old.out.now) (held_by O.held self.new.out.now) result) }
@@ -128,7 +128,7 @@ pub fn do_lines<S: Script, R: LineReader, O: Sink>(
     requires pending { R.pending lines.old ≡ [] }
     requires given { R.given lines.old ≡ 0 }
     ensures same { R.name lines.new ≡ R.name lines.old }
-    ensures told { IfSome (R.left lines.old) (λ bytes.
+    ensures known { IfSome (R.left lines.old) (λ bytes.
         IsOutputFrom S.fold (R.limits lines.old) script.old bytes
         (R.left lines.new)
         (held_by O.held out.old) (held_by O.held out.new) result) }

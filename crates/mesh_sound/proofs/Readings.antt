@@ -16,8 +16,8 @@ means mesh b m s = ap (in_mesh mesh) s.stands
 
 -- ---- of bytes that are read, whether they are written
 
-pub is_as_written : (mesh : Nodes) (b again : List ℕ) (m : wire.Message) → IsMesh mesh → 1 ≤ length mesh → Encodes b m → stranger mesh m ≡ None → IsWritable m → again ≡ encoding m → again ≡ b → IsWritten mesh b
-is_as_written mesh b again m is some s known writable again_is same =
+pub is_as_written : (mesh : Nodes) (b rewritten : List ℕ) (m : wire.Message) → IsMesh mesh → 1 ≤ length mesh → Encodes b m → stranger mesh m ≡ None → IsWritable m → rewritten ≡ encoding m → rewritten ≡ b → IsWritten mesh b
+is_as_written mesh b rewritten m is some s known writable again_is same =
     (written_is_sent mesh b is some).0 (record {
       allowed = s.allowed;
       known = ap (stranger mesh) s.stands ∙ known;
@@ -34,8 +34,8 @@ known_in mesh b m is some s w = ap (stranger mesh) (sym s.stands) ∙ (as_writte
 pub writable_in : (mesh : Nodes) (b : List ℕ) (m : wire.Message) → IsMesh mesh → 1 ≤ length mesh → Encodes b m → IsWritten mesh b → IsWritable m
 writable_in mesh b m is some s w = subst IsWritable s.stands (as_written mesh b is some w).writable
 
-pub same_in : (mesh : Nodes) (b again : List ℕ) (m : wire.Message) → IsMesh mesh → 1 ≤ length mesh → Encodes b m → again ≡ encoding m → IsWritten mesh b → again ≡ b
-same_in mesh b again m is some s again_is w = again_is ∙ ap encoding (sym s.stands) ∙ sym (as_written mesh b is some w).same
+pub same_in : (mesh : Nodes) (b rewritten : List ℕ) (m : wire.Message) → IsMesh mesh → 1 ≤ length mesh → Encodes b m → rewritten ≡ encoding m → IsWritten mesh b → rewritten ≡ b
+same_in mesh b rewritten m is some s again_is w = again_is ∙ ap encoding (sym s.stands) ∙ sym (as_written mesh b is some w).same
 
 -- ---- what they say
 

@@ -28,7 +28,7 @@ fn holds(
     nodes: &[Node],
     from: usize,
     bytes: &[u8],
-    again: &mut Packet,
+    rewritten: &mut Packet,
 ) -> bool
     requires nodes { AreOf mesh.now nodes.now }
     requires from { from < length mesh.now }
@@ -36,14 +36,20 @@ fn holds(
     ensures { IsTrue result ↔ Holds claim mesh.now nodes.now from bytes.now }
 {
     match claim {
-        Claim::Written => is_written(mesh, bytes, again),
+        Claim::Written => is_written(mesh, bytes, rewritten),
         Claim::Request => is_honest_if_request(mesh, nodes, from, bytes),
         Claim::Reply => is_honest_if_reply(mesh, nodes, from, bytes),
     }
 }
 
 // Whether the claim holds of an item's packet. A datum that is given to a node isn't a packet.
-fn holds_of_item(claim: Claim, mesh: &Mesh, nodes: &[Node], item: &Item, again: &mut Packet) -> bool
+fn holds_of_item(
+    claim: Claim,
+    mesh: &Mesh,
+    nodes: &[Node],
+    item: &Item,
+    rewritten: &mut Packet,
+) -> bool
     requires nodes { AreOf mesh.now nodes.now }
     requires from { InItem (λ from _. from < length mesh.now) item.now }
     requires readable { InItem (IsReadable claim mesh.now) item.now }
@@ -51,7 +57,14 @@ fn holds_of_item(claim: Claim, mesh: &Mesh, nodes: &[Node], item: &Item, again: 
 {
     match item {
         Item::New { .. } => true,
-        Item::Heard { from, bytes } => holds(claim, mesh, nodes, *from, bytes.as_slice(), again),
+        Item::Heard { from, bytes } => holds(
+            claim,
+            mesh,
+            nodes,
+            *from,
+            bytes.as_slice(),
+            rewritten,
+        ),
     }
 }
 
@@ -61,7 +74,7 @@ fn holds_of_inbox(
     mesh: &Mesh,
     nodes: &[Node],
     node: &Node,
-    again: &mut Packet,
+    rewritten: &mut Packet,
 ) -> bool
     requires nodes { AreOf mesh.now nodes.now }
     requires size { node.now.size ≡ length mesh.now }
@@ -73,7 +86,7 @@ fn holds_of_inbox(
     let _number = node.sn();
     let inbox = node.inbox();
     for k in 0..inbox.len() {
-        if !holds_of_item(claim, mesh, nodes, inbox.at(k), again) {
+        if !holds_of_item(claim, mesh, nodes, inbox.at(k), rewritten) {
             return false;
         }
     }
@@ -86,7 +99,7 @@ fn holds_of_copies(
     mesh: &Mesh,
     nodes: &[Node],
     radio: &Radio,
-    again: &mut Packet,
+    rewritten: &mut Packet,
 ) -> bool
     requires nodes { AreOf mesh.now nodes.now }
     requires size { radio.now.size ≡ length mesh.now }
@@ -98,7 +111,7 @@ fn holds_of_copies(
     let mut start = 0;
     let mut hint = 0;
     while let Some(copy) = radio.next_from(start, &mut hint) {
-        if !holds(claim, mesh, nodes, copy.from, copy.bytes, again) {
+        if !holds(claim, mesh, nodes, copy.from, copy.bytes, rewritten) {
             return false;
         }
         start = copy.id + 1;
@@ -115,11 +128,11 @@ pub fn holds_of_all(claim: Claim, mesh: &Mesh, nodes: &[Node], radio: &Radio) ->
     ensures { IsTrue result
         ↔ InEachPacket (Holds claim mesh.now nodes.now) nodes.now radio.now.flying }
 {
-    let mut again = Packet::new();
+    let mut rewritten = Packet::new();
     for node in nodes {
-        if !holds_of_inbox(claim, mesh, nodes, node, &mut again) {
+        if !holds_of_inbox(claim, mesh, nodes, node, &mut rewritten) {
             return false;
         }
     }
-    holds_of_copies(claim, mesh, nodes, radio, &mut again)
+    holds_of_copies(claim, mesh, nodes, radio, &mut rewritten)
 }

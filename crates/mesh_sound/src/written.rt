@@ -86,7 +86,7 @@ fn write_error(m: &RerrView<'_>, out: &mut Packet)
 }
 
 // Writes the message again.
-fn write_again(m: &Message<'_>, out: &mut Packet)
+fn rewrite(m: &Message<'_>, out: &mut Packet)
     requires writable { IsWritable m.now }
     requires says { (mesh : Nodes) × IsMessageInMesh (length mesh) (in_mesh mesh m.now) }
     ensures { out.new.items ≡ encoding m.now }
@@ -101,7 +101,7 @@ fn write_again(m: &Message<'_>, out: &mut Packet)
 
 /// Whether the bytes are the packet that is written of what they mean. They are read, and written
 /// again into `again`: reserved bits and a lifetime that no node writes aren't part of a message.
-pub(crate) fn is_written(mesh: &Mesh, bytes: &[u8], again: &mut Packet) -> bool
+pub(crate) fn is_written(mesh: &Mesh, bytes: &[u8], rewritten: &mut Packet) -> bool
     requires some { 1 ≤ length mesh.now }
     ensures { IsTrue result ↔ IsWritten mesh.now bytes.now }
 {
@@ -113,6 +113,6 @@ pub(crate) fn is_written(mesh: &Mesh, bytes: &[u8], again: &mut Packet) -> bool
     if !is_known(mesh, &message) || !is_writable(&message) {
         return false;
     }
-    write_again(&message, again);
-    again.as_slice() == bytes
+    rewrite(&message, rewritten);
+    rewritten.as_slice() == bytes
 }

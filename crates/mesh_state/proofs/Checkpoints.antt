@@ -5,10 +5,10 @@ use Rattle.std.proofs.Math.Seq.{take-append_seam, drop-append_seam}
 use Rattle.std.proofs.lemmas.Nat.{from_be_bytes-to_be_bytes_4}
 use Rattle.mesh_checkpoint.specs.Checkpoint.{Body, body}
 use Rattle.mesh_checkpoint.specs.State.{magic, stated_size, body_length, HasLength, IsCheckpoint}
-use Rattle.mesh_state.specs.Fronts.{front_size, front_of, rest_of, IsOtherHead}
+use Rattle.mesh_state.specs.CheckpointParts.{checkpoint_part_size, checkpoint_part_of, rest_of, IsOtherHead}
 use Rattle.mesh_checkpoint.specs.Points.{body_of}
-use Rattle.mesh_state.specs.Laws.{CheckpointIsFront}
-use Rattle.mesh_state.proofs.Fronts.{size_with, stated_in}
+use Rattle.mesh_state.specs.Laws.{CheckpointIsItsPart}
+use Rattle.mesh_state.proofs.CheckpointParts.{size_with, stated_in}
 
 pub magic_of : (b : List ℕ) (x : Body) → IsCheckpoint b x → take 4 b ≡ magic
 magic_of b x is = ap (take 4) is.spelled
@@ -36,7 +36,7 @@ other_head head x other is =
 
 -- ---- a checkpoint and what follows it
 
-seam_size : (b rest : List ℕ) → HasLength b → front_size (b ++ rest) ≡ length b
+seam_size : (b rest : List ℕ) → HasLength b → checkpoint_part_size (b ++ rest) ≡ length b
 seam_size b rest has =
     let most = has.0 in
     let whole = has.1 in
@@ -44,15 +44,15 @@ seam_size b rest has =
     let both = length-append b rest in
     size_with (b ++ rest) (omega arith) (omega arith) (omega arith) ∙ omega arith
 
-pub seam_front : (b rest : List ℕ) → HasLength b → front_of (b ++ rest) ≡ b
-unfolding front_of
-seam_front b rest has = ap (λ k. take k (b ++ rest)) (seam_size b rest has) ∙ take-append_seam b rest
+pub seam_checkpoint_part : (b rest : List ℕ) → HasLength b → checkpoint_part_of (b ++ rest) ≡ b
+unfolding checkpoint_part_of
+seam_checkpoint_part b rest has = ap (λ k. take k (b ++ rest)) (seam_size b rest has) ∙ take-append_seam b rest
 
 pub seam_rest : (b rest : List ℕ) → HasLength b → rest_of (b ++ rest) ≡ rest
 unfolding rest_of
 seam_rest b rest has = ap (λ k. drop k (b ++ rest)) (seam_size b rest has) ∙ drop-append_seam b rest
 
-pub checkpoint_is_front : CheckpointIsFront
-checkpoint_is_front m saved rest is =
+pub checkpoint_is_its_part : CheckpointIsItsPart
+checkpoint_is_its_part m saved rest is =
     let has = length_of saved (body_of m) is in
-    (seam_front saved rest has, seam_rest saved rest has)
+    (seam_checkpoint_part saved rest has, seam_rest saved rest has)

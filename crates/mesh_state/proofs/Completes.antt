@@ -19,8 +19,8 @@ completes Save bytes after a b (Run status.Usage) read write t fine = absurd t
 completes Save bytes after a b (BadState why) read write t fine = absurd t
 completes Save bytes after a b TooBig read write t fine = absurd (fine.1 t.long)
 completes Go bytes after a b (Run status.Done) read write t fine = inl refl
-completes Go bytes after a b (Run (status.BadLine n)) read write t fine = absurd (let clash = sym (fine.1 t.start t.plain t.state) ∙ (t.told).0 in let P : ⊥ = cc in P)
-completes Go bytes after a b (Run (status.Full n)) read write t fine = absurd (let clash = sym (fine.1 t.start t.plain t.state) ∙ (t.told).0 in let P : ⊥ = cc in P)
+completes Go bytes after a b (Run (status.BadLine n)) read write t fine = absurd (let clash = sym (fine.1 t.start t.plain t.state) ∙ (t.output).0 in let P : ⊥ = cc in P)
+completes Go bytes after a b (Run (status.Full n)) read write t fine = absurd (let clash = sym (fine.1 t.start t.plain t.state) ∙ (t.output).0 in let P : ⊥ = cc in P)
 completes Go bytes after a b (Run status.ReadFault) read write t fine = absurd (read refl)
 completes Go bytes after a b (Run status.WriteFault) read write t fine = absurd (write refl)
 completes Go bytes after a b (Run status.NoMemory) read write t fine = inr refl
@@ -40,7 +40,7 @@ answer_completes o asked left after a b s rb ra wb wa e t read write =
     let P : Option Asked → Type 0 = λ q. HasCompleted q left rb ra wb wa s in
     subst P e (by_left asked left after a b s rb ra wb wa t read write)
 
--- ---- where the front is refused
+-- ---- where the checkpoint part is refused
 
 refuses : (asked : Asked) (bytes : List ℕ) (after a b : Option (List ℕ)) (s : StateStatus) → (s ≡ Run status.ReadFault → ⊥) → IsAnswered asked bytes after a b s → HasRefusal asked bytes → IsRefusalOrShort s
 refuses Save bytes after a b s read t bad = absurd bad

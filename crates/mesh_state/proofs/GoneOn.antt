@@ -16,22 +16,22 @@ use Rattle.mesh_state.specs.declared.words.Asked.{Asked}
 use Rattle.mesh_state.specs.declared.words.Asked.TheVariants.{Save, Go}
 use Rattle.mesh_state.specs.declared.status.StateStatus.{StateStatus}
 use Rattle.mesh_state.specs.declared.status.StateStatus.TheVariants.{Run, BadState, TooBig}
-use Rattle.mesh_state.specs.Fronts.{front_of, rest_of}
+use Rattle.mesh_state.specs.CheckpointParts.{checkpoint_part_of, rest_of}
 use Rattle.mesh_state.specs.Saved.{IsSavedOf, IsTextBelow}
 use Rattle.mesh_state.specs.Laws.{LoadedRunGoesOn}
 use Rattle.mesh_state.specs.Answers.{IsBadState, IsRunOn, RanUnlessCut, IsRunGone, IsGoneOn, IsContinued, HasAnswered, HasGoneOn}
-use Rattle.mesh_state.proofs.Checkpoints.{checkpoint_is_front}
+use Rattle.mesh_state.proofs.Checkpoints.{checkpoint_is_its_part}
 use Rattle.mesh_state.proofs.WholeLines.{saved_run_goes_on}
 
 -- the state of the checkpoint that was saved
-start_is : OneStart → (first second saved : List ℕ) (start : RunState) → IsSavedOf first saved → IsPlainRunState start → IsState (front_of (saved ++ second)) start → start ≡ (text_of_input Base first).after
+start_is : OneStart → (first second saved : List ℕ) (start : RunState) → IsSavedOf first saved → IsPlainRunState start → IsState (checkpoint_part_of (saved ++ second)) start → start ≡ (text_of_input Base first).after
 start_is one first second saved start is plain state =
     let m : RunState = (text_of_input Base first).after in
-    let front : front_of (saved ++ second) ≡ saved = (checkpoint_is_front m saved second is.state).0 in
-    one saved start m plain (run_is_plain Base first) (subst (λ b. IsState b start) front state) is.state
+    let checkpoint_part : checkpoint_part_of (saved ++ second) ≡ saved = (checkpoint_is_its_part m saved second is.state).0 in
+    one saved start m plain (run_is_plain Base first) (subst (λ b. IsState b start) checkpoint_part state) is.state
 
 rest_is : (first second saved : List ℕ) → IsSavedOf first saved → rest_of (saved ++ second) ≡ second
-rest_is first second saved is = (checkpoint_is_front (text_of_input Base first).after saved second is.state).1
+rest_is first second saved is = (checkpoint_is_its_part (text_of_input Base first).after saved second is.state).1
 
 text_below : (first saved : List ℕ) → IsSavedOf first saved → IsTextBelow first (text_on (text_of_input Base first).after)
 text_below first saved is more few = saved_run_goes_on first more is.whole few is.finished
@@ -47,7 +47,7 @@ loaded_run_goes_on one first second saved start is few plain state =
 gone_on : OneStart → (first second saved : List ℕ) (left a b : Option (List ℕ)) (s : Status) → IsSavedOf first saved → IsRunOn (saved ++ second) left a b s → IsGoneOn first second left a b s
 gone_on one first second saved left a b s is t =
     let m : RunState = (text_of_input Base first).after in
-    let from : IsOutputFrom All m (rest_of (saved ++ second)) left a b s = subst (λ x. IsOutputFrom All x (rest_of (saved ++ second)) left a b s) (start_is one first second saved t.start is t.plain t.state) t.told in
+    let from : IsOutputFrom All m (rest_of (saved ++ second)) left a b s = subst (λ x. IsOutputFrom All x (rest_of (saved ++ second)) left a b s) (start_is one first second saved t.start is t.plain t.state) t.output in
     (text_on m, text_below first saved is, subst (λ l. IsOutputFrom All m l left a b s) (rest_is first second saved is) from)
 
 went_on : OneStart → (first second saved : List ℕ) (left a b : Option (List ℕ)) (s : Status) → IsSavedOf first saved → IsRunGone (saved ++ second) left a b s → RanUnlessCut (IsGoneOn first second left a b) (saved ++ second) left a b s
@@ -63,8 +63,8 @@ went_on one first second saved left a b status.Usage is t = t
 
 never_refused : RunIsUnrefused → (bytes : List ℕ) (left a b : Option (List ℕ)) (why : StateError) → IsBadState bytes left a b why → (first second saved : List ℕ) → IsSavedOf first saved → bytes ≢ saved ++ second
 never_refused free bytes left a b why bad first second saved is whole =
-    let front : front_of bytes ≡ saved = ap front_of whole ∙ (checkpoint_is_front (text_of_input Base first).after saved second is.state).0 in
-    bad.refusal (free Base first saved why is.state (subst (λ l. IsRefused l why) front bad.refused))
+    let checkpoint_part : checkpoint_part_of bytes ≡ saved = ap checkpoint_part_of whole ∙ (checkpoint_is_its_part (text_of_input Base first).after saved second is.state).0 in
+    bad.refusal (free Base first saved why is.state (subst (λ l. IsRefused l why) checkpoint_part bad.refused))
 
 goes_on : OneStart → RunIsUnrefused → (asked : Asked) (bytes : List ℕ) (left a b : Option (List ℕ)) (s : StateStatus) → HasAnswered (Some asked) (Some bytes) left a b s → IsContinued asked bytes left a b s
 goes_on one free Save bytes left a b s t = tt

@@ -1,5 +1,5 @@
 pub mod Taking
-pub mod Fronts
+pub mod CheckpointParts
 pub mod WholeLines
 pub mod Checkpoints
 pub mod Refused

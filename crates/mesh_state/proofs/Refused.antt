@@ -1,4 +1,4 @@
--- What is refused of the bytes that were read is refused of the front.
+-- What is refused of the bytes that were read is refused of the checkpoint part.
 use Rattle.std.proofs.Common.{◌≡◌, ◌≢◌, ◌∙◌, ◌⊎◌, ℕ, ◌≤◌, ◌<◌, refl, inl, inr, List, length, take, Option, Some, ap, sym, subst, arith, length-take}
 use Rattle.std.proofs.lemmas.List.{take-take}
 use Rattle.mesh_checkpoint.specs.declared.limits.TheConstants.{LONGEST_BODY}
@@ -8,8 +8,8 @@ use Rattle.mesh_load.specs.declared.error.StateError.{StateError}
 use Rattle.mesh_load.specs.declared.error.StateError.TheVariants as errors
 use Rattle.mesh_load.specs.Loading.{IsRefused}
 use Rattle.mesh_text.specs.Schedule.{RunState}
-use Rattle.mesh_state.specs.Fronts.{front_size, front_of, rest_of, IsOtherHead, IsTaken}
-use Rattle.mesh_state.proofs.Fronts.{size_whole, stated_in}
+use Rattle.mesh_state.specs.CheckpointParts.{checkpoint_part_size, checkpoint_part_of, rest_of, IsOtherHead, IsTaken}
+use Rattle.mesh_state.proofs.CheckpointParts.{size_whole, stated_in}
 use Rattle.mesh_state.proofs.Checkpoints.{other_head}
 
 whole_input : (bytes taken : List ℕ) → taken ≡ take 8 bytes → length taken ≡ 8 → 8 ≤ length bytes
@@ -17,16 +17,16 @@ whole_input bytes taken is whole =
     let long : length taken ≡ length (take 8 bytes) = ap length is in
     omega (arith, length-take 8 bytes)
 
-same_first : (bytes taken : List ℕ) → taken ≡ take 8 bytes → length taken ≡ 8 → take 4 (front_of bytes) ≡ take 4 taken
-unfolding front_of
+same_first : (bytes taken : List ℕ) → taken ≡ take 8 bytes → length taken ≡ 8 → take 4 (checkpoint_part_of bytes) ≡ take 4 taken
+unfolding checkpoint_part_of
 same_first bytes taken is whole =
     let size = size_whole bytes (whole_input bytes taken is whole) in
-    take-take 4 (front_size bytes) bytes (omega arith) ∙ sym (ap (take 4) is ∙ take-take 4 8 bytes (omega arith))
+    take-take 4 (checkpoint_part_size bytes) bytes (omega arith) ∙ sym (ap (take 4) is ∙ take-take 4 8 bytes (omega arith))
 
-same_stated : (bytes taken : List ℕ) → taken ≡ take 8 bytes → length taken ≡ 8 → stated_size (front_of bytes) ≡ stated_size taken
-unfolding front_of
+same_stated : (bytes taken : List ℕ) → taken ≡ take 8 bytes → length taken ≡ 8 → stated_size (checkpoint_part_of bytes) ≡ stated_size taken
+unfolding checkpoint_part_of
 same_stated bytes taken is whole =
-    stated_in (front_size bytes) bytes (size_whole bytes (whole_input bytes taken is whole)) ∙ sym (ap stated_size is ∙ stated_in 8 bytes (omega arith))
+    stated_in (checkpoint_part_size bytes) bytes (size_whole bytes (whole_input bytes taken is whole)) ∙ sym (ap stated_size is ∙ stated_in 8 bytes (omega arith))
 
 too_long : (b c : List ℕ) → (take 4 b ≢ magic) ⊎ (LONGEST_BODY < stated_size b) → take 4 b ≡ magic → stated_size c ≡ stated_size b → ¬ (HasLength c)
 too_long b c (inl first) is same has = first is
@@ -40,14 +40,14 @@ head_refused b c other first same errors.Sums bad = absurd (other_head b bad.0 o
 head_refused b c other first same (errors.Unsound part) bad = absurd (other_head b bad.body other bad.checkpoint)
 head_refused b c other first same errors.NoMemory bad = tt
 
-pub refused : (bytes taken : List ℕ) (left : Option (List ℕ)) (why : StateError) → IsTaken bytes taken left → IsRefused taken why → IsRefused (front_of bytes) why
-refused bytes taken left why (inl front) bad = subst (λ b. IsRefused b why) front.front bad
+pub refused : (bytes taken : List ℕ) (left : Option (List ℕ)) (why : StateError) → IsTaken bytes taken left → IsRefused taken why → IsRefused (checkpoint_part_of bytes) why
+refused bytes taken left why (inl checkpoint_part) bad = subst (λ b. IsRefused b why) checkpoint_part.checkpoint_part bad
 refused bytes taken left why (inr head) bad =
     let whole = (head.other).whole in
-    head_refused taken (front_of bytes) head.other (same_first bytes taken head.head whole) (same_stated bytes taken head.head whole) why bad
+    head_refused taken (checkpoint_part_of bytes) head.other (same_first bytes taken head.head whole) (same_stated bytes taken head.head whole) why bad
 
--- a checkpoint that was read is the front, and the rest is left
+-- a checkpoint that was read is the checkpoint part, and the rest is left
 pub restored : (bytes taken : List ℕ) (left : Option (List ℕ)) (m : RunState) → IsTaken bytes taken left → IsState taken m
-    → (IsState (front_of bytes) m) × (left ≡ Some (rest_of bytes)) × (taken ≡ front_of bytes)
-restored bytes taken left m (inl front) is = (subst (λ b. IsState b m) front.front is, front.rest, front.front)
+    → (IsState (checkpoint_part_of bytes) m) × (left ≡ Some (rest_of bytes)) × (taken ≡ checkpoint_part_of bytes)
+restored bytes taken left m (inl checkpoint_part) is = (subst (λ b. IsState b m) checkpoint_part.checkpoint_part is, checkpoint_part.rest, checkpoint_part.checkpoint_part)
 restored bytes taken left m (inr head) is = absurd (other_head taken (body_of m) head.other is)

@@ -2,7 +2,7 @@
 use Rattle.std.proofs.Common.{◌≡◌, ◌∙◌, ℕ, ◌+◌, ◌<◌, List, ◌++◌, length, drop, Option, Some, None, sym, ap, subst, arith}
 use Rattle.std.specs.Io.KnownBytes.{Consumes, Keeps}
 use Rattle.std.proofs.Math.Seq.{drop-append_seam}
-use Rattle.mesh_state.specs.Fronts.{TakesFewer}
+use Rattle.mesh_state.specs.CheckpointParts.{TakesFewer}
 
 -- behind the old bytes stand those that were taken, and so many are still to come
 pub record HasTaken (count left : ℕ) (before now : Option (List ℕ)) (old new : List ℕ) : Type 0 where

@@ -21,7 +21,7 @@ use Rattle.mesh_load.specs.RunStates.{IsPlainRunState}
 use Rattle.mesh_state.specs.declared.words.Asked.TheVariants.{Save, Go}
 use Rattle.mesh_state.specs.declared.status.StateStatus.{StateStatus}
 use Rattle.mesh_state.specs.declared.status.StateStatus.TheVariants.{Run, TooBig}
-use Rattle.mesh_state.specs.Fronts.{front_of, rest_of, IsTaken, IsFrontCut}
+use Rattle.mesh_state.specs.CheckpointParts.{checkpoint_part_of, rest_of, IsTaken, IsCheckpointPartCut}
 use Rattle.mesh_state.specs.Answers.{IsSaved, IsCutOff, IsTooBig, IsUnrefused, answer_by, IsRunOn, IsBadState, IsRunGone, IsRunSaved, IsAnswered, HasAnswered}
 use Rattle.mesh_state.proofs.Refused.{refused, restored}
 
@@ -121,29 +121,29 @@ gone bytes left a b status.WriteFault other t = t
 gone bytes left a b status.NoMemory other t = inr t
 gone bytes left a b status.Usage other t = absurd (other refl)
 
--- the rest was run from the front's state
+-- the rest was run from the checkpoint part's state
 gone_from : (left0 left1 left2 a b : Option (List ℕ)) (taken : List ℕ) (start : RunState) (s : Status) → s ≢ status.Usage → IfSome left0 (λ bytes. IsTaken bytes taken left1)
     → IsState taken start → IsPlainRunState start → IsUnrefused taken → IfSome left1 (λ bytes. IsOutputFrom All start bytes left2 a b s) → HasAnswered (Some Go) left0 left2 a b (Run s)
 gone_from None left1 left2 a b taken start s other read is plain free told = tt
 gone_from (Some bytes) left1 left2 a b taken start s other read is plain free told =
     let r = restored bytes taken left1 start read is in
-    let front : IsUnrefused (front_of bytes) = subst IsUnrefused r.2 free in
+    let checkpoint_part : IsUnrefused (checkpoint_part_of bytes) = subst IsUnrefused r.2 free in
     let so : IsOutputFrom All start (rest_of bytes) left2 a b s = subst (λ o. IfSome o (λ l. IsOutputFrom All start l left2 a b s)) r.1 told in
-    gone bytes left2 a b s other (record { unrefused = front; start = start; plain = plain; state = r.0; told = so })
+    gone bytes left2 a b s other (record { unrefused = checkpoint_part; start = start; plain = plain; state = r.0; output = so })
 
 pub gone_told : (left0 left1 left2 a b : Option (List ℕ)) (taken seen : List ℕ) (start : RunState) (s : Status) → seen ≡ taken → s ≢ status.Usage → IfSome left0 (λ bytes. IsTaken bytes taken left1)
     → IsState seen start → IsPlainRunState start → ((why : StateError) → IsRefused seen why → why ≡ errors.NoMemory) → IfSome left1 (λ bytes. IsOutputFrom All start bytes left2 a b s) → HasAnswered (Some Go) left0 left2 a b (Run s)
 gone_told left0 left1 left2 a b taken seen start s e other read is plain free told =
     gone_from left0 left1 left2 a b taken start s other read (subst (λ l. IsState l start) e is) plain (subst IsUnrefused e (λ why apart bad. apart (free why bad))) told
 
--- a read failed within the front
-pub cut_told : (left0 left1 a : Option (List ℕ)) → IfSome left0 (λ bytes. IsFrontCut bytes left1) → HasAnswered (Some Go) left0 left1 a a (Run status.ReadFault)
+-- a read failed within the checkpoint part
+pub cut_told : (left0 left1 a : Option (List ℕ)) → IfSome left0 (λ bytes. IsCheckpointPartCut bytes left1) → HasAnswered (Some Go) left0 left1 a a (Run status.ReadFault)
 cut_told None left1 a cut = tt
 cut_told (Some bytes) left1 a cut = inl (cut, Keeps-same a)
 
--- the front was refused
-bad_front : (bytes : List ℕ) (left1 a : Option (List ℕ)) (taken : List ℕ) (why : StateError) → why ≢ errors.NoMemory → IsTaken bytes taken left1 → IsRefused taken why → IsBadState bytes left1 a a why
-bad_front bytes left1 a taken why other read bad = record {
+-- the checkpoint part was refused
+bad_checkpoint_part : (bytes : List ℕ) (left1 a : Option (List ℕ)) (taken : List ℕ) (why : StateError) → why ≢ errors.NoMemory → IsTaken bytes taken left1 → IsRefused taken why → IsBadState bytes left1 a a why
+bad_checkpoint_part bytes left1 a taken why other read bad = record {
   taken = taken;
   read = read;
   refused = refused bytes taken left1 why read bad;
@@ -153,11 +153,11 @@ bad_front bytes left1 a taken why other read bad = record {
 
 -- or was not loaded for want of memory
 unloaded : (bytes : List ℕ) (left1 a : Option (List ℕ)) (taken : List ℕ) (why : StateError) → IsTaken bytes taken left1 → IsRefused taken why → IsAnswered Go bytes left1 a a (answer_by why)
-unloaded bytes left1 a taken errors.NotState read bad = bad_front bytes left1 a taken errors.NotState (λ e. cc) read bad
-unloaded bytes left1 a taken errors.Length read bad = bad_front bytes left1 a taken errors.Length (λ e. cc) read bad
-unloaded bytes left1 a taken errors.Spelling read bad = bad_front bytes left1 a taken errors.Spelling (λ e. cc) read bad
-unloaded bytes left1 a taken errors.Sums read bad = bad_front bytes left1 a taken errors.Sums (λ e. cc) read bad
-unloaded bytes left1 a taken (errors.Unsound part) read bad = bad_front bytes left1 a taken (errors.Unsound part) (λ e. cc) read bad
+unloaded bytes left1 a taken errors.NotState read bad = bad_checkpoint_part bytes left1 a taken errors.NotState (λ e. cc) read bad
+unloaded bytes left1 a taken errors.Length read bad = bad_checkpoint_part bytes left1 a taken errors.Length (λ e. cc) read bad
+unloaded bytes left1 a taken errors.Spelling read bad = bad_checkpoint_part bytes left1 a taken errors.Spelling (λ e. cc) read bad
+unloaded bytes left1 a taken errors.Sums read bad = bad_checkpoint_part bytes left1 a taken errors.Sums (λ e. cc) read bad
+unloaded bytes left1 a taken (errors.Unsound part) read bad = bad_checkpoint_part bytes left1 a taken (errors.Unsound part) (λ e. cc) read bad
 unloaded bytes left1 a taken errors.NoMemory read bad = inl (Keeps-same a)
 
 unloaded_from : (left0 left1 a : Option (List ℕ)) (taken : List ℕ) (why : StateError) → IfSome left0 (λ bytes. IsTaken bytes taken left1) → IsRefused taken why

@@ -27,7 +27,7 @@ one_more : (c : Bool) (x : ℕ) (ls : List (List ℕ)) (s : List ℕ) → eqb x 
 one_more true x ls s lf is some = before ls s is some ∙ ap (λ b. b ∷ s) (sym (eqb-true x 10 lf))
 one_more false x ls s lf is some = onto x ls s is some
 
-ends_with_lf : (front : List ℕ) → complete (front ++ 10 ∷ []) ≡ front ++ 10 ∷ []
+ends_with_lf : (prefix : List ℕ) → complete (prefix ++ 10 ∷ []) ≡ prefix ++ 10 ∷ []
 unfolding complete_parts
 ends_with_lf [] = refl
 ends_with_lf (x ∷ xs) =

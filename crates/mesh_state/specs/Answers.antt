@@ -21,7 +21,7 @@ use Rattle.mesh_state.specs.declared.words.Asked.{Asked}
 use Rattle.mesh_state.specs.declared.words.Asked.TheVariants.{Save, Go}
 use Rattle.mesh_state.specs.declared.status.StateStatus.{StateStatus}
 use Rattle.mesh_state.specs.declared.status.StateStatus.TheVariants.{Run, BadState, TooBig}
-use Rattle.mesh_state.specs.Fronts.{front_of, rest_of, IsTaken, IsFrontCut}
+use Rattle.mesh_state.specs.CheckpointParts.{checkpoint_part_of, rest_of, IsTaken, IsCheckpointPartCut}
 use Rattle.mesh_state.specs.Saved.{IsSavedOf, IsTextBelow}
 
 -- ---- with `save`, of the run of a schedule
@@ -57,36 +57,39 @@ IsRunSaved bytes left before now others =
 
 -- no refusal applies. Lack of memory doesn't count as one
 abbrev pub IsUnrefused : List ℕ → Type 0
-IsUnrefused front = (why : StateError) → why ≢ errors.NoMemory → ¬ (IsRefused front why)
+IsUnrefused checkpoint_part =
+    (why : StateError) → why ≢ errors.NoMemory → ¬ (IsRefused checkpoint_part why)
 
--- the front is not refused, it is the checkpoint of one run state, and the rest was run from there
+-- the checkpoint part is not refused, it is the checkpoint of one run state, and the rest was run
+-- from there
 pub record IsRunOn (bytes : List ℕ) (left before now : Option (List ℕ)) (s : Status) : Type 0 where
-  pub unrefused : IsUnrefused (front_of bytes)
+  pub unrefused : IsUnrefused (checkpoint_part_of bytes)
   pub start : RunState
   pub plain : IsPlainRunState start
-  pub state : IsState (front_of bytes) start
-  pub told : IsOutputFrom All start (rest_of bytes) left before now s
+  pub state : IsState (checkpoint_part_of bytes) start
+  pub output : IsOutputFrom All start (rest_of bytes) left before now s
 
--- the front was refused once it had been read, or for its first 8 bytes, and nothing was written
+-- the checkpoint part was refused once it had been read, or for its first 8 bytes, and nothing was
+-- written
 pub record IsBadState (bytes : List ℕ) (left before now : Option (List ℕ)) (why : StateError)
     : Type 0 where
   pub taken : List ℕ
   pub read : IsTaken bytes taken left
-  pub refused : IsRefused (front_of bytes) why
+  pub refused : IsRefused (checkpoint_part_of bytes) why
   pub refusal : why ≢ errors.NoMemory
   pub kept : Keeps before now
 
--- the run was as `ran` says; or nothing was written, since a read failed within the front, or
--- memory ran out before the run
+-- the run was as `ran` says; or nothing was written, since a read failed within the checkpoint
+-- part, or memory ran out before the run
 abbrev pub RanUnlessCut : (Status → Type 0) → List ℕ → Option (List ℕ) → Option (List ℕ)
     → Option (List ℕ) → Status → Type 0
 RanUnlessCut ran bytes left before now Usage = ⊥
 RanUnlessCut ran bytes left before now ReadFault =
-    (IsFrontCut bytes left × Keeps before now) ⊎ ran ReadFault
+    (IsCheckpointPartCut bytes left × Keeps before now) ⊎ ran ReadFault
 RanUnlessCut ran bytes left before now NoMemory = Keeps before now ⊎ ran NoMemory
 RanUnlessCut ran bytes left before now others = ran others
 
--- the rest was run from the front's state on, unless the run didn't begin
+-- the rest was run from the checkpoint part's state on, unless the run didn't begin
 abbrev pub IsRunGone : List ℕ → Option (List ℕ) → Option (List ℕ) → Option (List ℕ) → Status
     → Type 0
 IsRunGone bytes left before now s =
@@ -123,23 +126,23 @@ IsContinued Go bytes left before now (BadState why) =
 IsContinued asked bytes left before now others = ⊤
 
 -- with `save` the schedule's run is done, and its last state's body isn't too long; with `go` the
--- front isn't refused, and the run of the rest is done
+-- checkpoint part isn't refused, and the run of the rest is done
 abbrev pub IsAllowed : Asked → List ℕ → Type 0
 IsAllowed Save bytes =
     ((text_on (opening Base) bytes).verdict ≡ Finished)
     × ¬ (IsTooLong (text_on (opening Base) bytes).after)
 IsAllowed Go bytes =
-    IsUnrefused (front_of bytes)
-    × ((start : RunState) → IsPlainRunState start → IsState (front_of bytes) start
+    IsUnrefused (checkpoint_part_of bytes)
+    × ((start : RunState) → IsPlainRunState start → IsState (checkpoint_part_of bytes) start
     → (text_on start (rest_of bytes)).verdict ≡ Finished)
 
--- with `go` a refusal of the front applies
+-- with `go` a refusal of the checkpoint part applies
 abbrev pub HasRefusal : Asked → List ℕ → Type 0
 HasRefusal Save bytes = ⊥
 HasRefusal Go bytes =
-    (why : StateError) × (why ≢ errors.NoMemory) × IsRefused (front_of bytes) why
+    (why : StateError) × (why ≢ errors.NoMemory) × IsRefused (checkpoint_part_of bytes) why
 
--- the answer for a front that isn't loaded
+-- the answer for a checkpoint part that isn't loaded
 abbrev pub answer_by : StateError → StateStatus
 answer_by errors.NotState = BadState errors.NotState
 answer_by errors.Length = BadState errors.Length
@@ -148,7 +151,7 @@ answer_by errors.Sums = BadState errors.Sums
 answer_by (errors.Unsound part) = BadState (errors.Unsound part)
 answer_by errors.NoMemory = Run NoMemory
 
--- the answer is a refusal of the front
+-- the answer is a refusal of the checkpoint part
 abbrev pub IsRefusal : StateStatus → Type 0
 IsRefusal answer = (why : StateError) × (answer ≡ BadState why)
 
@@ -156,7 +159,7 @@ IsRefusal answer = (why : StateError) × (answer ≡ BadState why)
 abbrev pub IsDoneOrShort : StateStatus → Type 0
 IsDoneOrShort answer = (answer ≡ Run Done) ⊎ (answer ≡ Run NoMemory)
 
--- the front is refused, or memory ran out
+-- the checkpoint part is refused, or memory ran out
 abbrev pub IsRefusalOrShort : StateStatus → Type 0
 IsRefusalOrShort answer = IsRefusal answer ⊎ (answer ≡ Run NoMemory)
 
@@ -176,8 +179,8 @@ HasCompleted asked given r s w x answer =
     IfSome asked (λ a. IfSome given (λ bytes.
     IsAllowed a bytes → ¬ (Rose r s) → ¬ (Rose w x) → IsDoneOrShort answer))
 
--- if the front is refused, and the source's count shows no fault, a refusal was answered, unless
--- memory ran out
+-- if the checkpoint part is refused, and the source's count shows no fault, a refusal was answered,
+-- unless memory ran out
 abbrev pub HasRefused : Option Asked → Option (List ℕ) → (r s : ℕ) → StateStatus → Type 0
 HasRefused asked given r s answer =
     IfSome asked (λ a. IfSome given (λ bytes.

@@ -7,13 +7,13 @@ use Rattle.mesh_text.specs.Text.{lines_before, text_on, text_of_input}
 use Rattle.mesh_text.specs.declared.verdict.Verdict.TheVariants.{Finished}
 use Rattle.mesh_checkpoint.specs.Points.{IsState}
 use Rattle.mesh_load.specs.RunStates.{IsPlainRunState}
-use Rattle.mesh_state.specs.Fronts.{front_of, rest_of}
+use Rattle.mesh_state.specs.CheckpointParts.{checkpoint_part_of, rest_of}
 use Rattle.mesh_state.specs.Saved.{HasWholeLines, IsSavedOf}
 
--- in a checkpoint and what follows it, the checkpoint is the front
-abbrev pub CheckpointIsFront : Type 0
-CheckpointIsFront = (m : RunState) (saved rest : List ℕ) → IsState saved m
-    → (front_of (saved ++ rest) ≡ saved) × (rest_of (saved ++ rest) ≡ rest)
+-- in a checkpoint and what follows it, the checkpoint is the checkpoint part
+abbrev pub CheckpointIsItsPart : Type 0
+CheckpointIsItsPart = (m : RunState) (saved rest : List ℕ) → IsState saved m
+    → (checkpoint_part_of (saved ++ rest) ≡ saved) × (rest_of (saved ++ rest) ≡ rest)
 
 -- the run of a schedule of at most `LONGEST_INPUT` bytes in two parts, the first of which has whole
 -- lines that were all allowed and done, is that of the first, and then that of the second from the
@@ -30,6 +30,6 @@ SavedRunGoesOn = (first second : List ℕ) → HasWholeLines first
 abbrev pub LoadedRunGoesOn : Type 0
 LoadedRunGoesOn = (first second saved : List ℕ) (start : RunState) → IsSavedOf first saved
     → length (first ++ second) ≤ LONGEST_INPUT
-    → IsPlainRunState start → IsState (front_of (saved ++ second)) start
+    → IsPlainRunState start → IsState (checkpoint_part_of (saved ++ second)) start
     → text_of_input Base (first ++ second)
     ≡ lines_before (text_of_input Base first).lines (text_on start (rest_of (saved ++ second)))

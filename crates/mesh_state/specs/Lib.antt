@@ -3,8 +3,9 @@
 pub mod Words
 -- Codes: the status with which the process ends.
 pub mod Codes
--- Fronts: the front of an input, where a checkpoint is, and the rest that follows it.
-pub mod Fronts
+-- CheckpointParts: the checkpoint part of an input, where a checkpoint is, and the rest that
+-- follows it.
+pub mod CheckpointParts
 -- Small: what the run of a schedule can have counted.
 pub mod Small
 -- Causes: when a call answers a fault of its source or its sink.

@@ -8,7 +8,7 @@ use Rattle.mesh_checkpoint.specs.Points.{IsState}
 
 -- no bytes, or bytes that end with an LF
 abbrev pub HasWholeLines : List ℕ → Type 0
-HasWholeLines bytes = (bytes ≡ []) ⊎ ((front : List ℕ) × (bytes ≡ front ++ 10 ∷ []))
+HasWholeLines bytes = (bytes ≡ []) ⊎ ((prefix : List ℕ) × (bytes ≡ prefix ++ 10 ∷ []))
 
 -- the schedule has whole lines, its run is done, and these bytes are the checkpoint of its last
 -- state

@@ -1,11 +1,12 @@
 //! Laws of the definitions. Each function does nothing, and has a contract that states a law.
-ghost use Rattle.mesh_state.specs.Laws.{CheckpointIsFront, SavedRunGoesOn, LoadedRunGoesOn};
+ghost use Rattle.mesh_state.specs.Laws.{CheckpointIsItsPart, SavedRunGoesOn, LoadedRunGoesOn};
 
 use mesh_load::one_start;
 
-/// In a checkpoint followed by lines, the checkpoint is the front, and the lines are the rest.
-pub fn a_checkpoint_is_the_front()
-    ensures { CheckpointIsFront }
+/// In a checkpoint followed by lines, the checkpoint is the checkpoint part, and the lines
+/// are the rest.
+pub fn a_checkpoint_is_its_part()
+    ensures { CheckpointIsItsPart }
 {}
 
 /// The run of a schedule, within the limit of an input, in two parts, the first of which has whole

@@ -11,8 +11,8 @@ use mesh_world::Part;
 pub enum StateStatus {
     /// What a run came to. Done with `save` says that the checkpoint was written.
     Run(Status),
-    /// The front of the input is no checkpoint from which a run can go on. Lack of memory is never
-    /// the reason.
+    /// The checkpoint part of the input is no checkpoint from which a run can go on. Lack of memory
+    /// is never the reason.
     BadState(StateError),
     /// The schedule was done, and its last state has too long a body for a checkpoint.
     TooBig,
@@ -31,7 +31,7 @@ fn part_reason(part: Part) -> &'static [u8]
     }
 }
 
-// Why a front is refused.
+// Why a checkpoint part is refused.
 fn error_reason(why: StateError) -> &'static [u8]
     ensures { result.now ≡ error_reason why }
 {
@@ -59,8 +59,8 @@ impl StateStatus {
         }
     }
 
-    /// A line for standard error, if no text says the reason: the front was refused, or the
-    /// checkpoint would be too long. Otherwise no bytes.
+    /// A line for standard error, if no text says the reason: the checkpoint part was refused, or
+    /// the checkpoint would be too long. Otherwise no bytes.
     pub fn reason(&self) -> &'static [u8]
         ensures { result.now ≡ reason_of self.now }
     {

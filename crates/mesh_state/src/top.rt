@@ -15,7 +15,7 @@ ghost use Rattle.mesh_state.specs.Causes.{HasReadCause, HasWriteCause};
 ghost use Rattle.mesh_state.specs.Answers.{answer_by, HasAnswered, HasGoneOn, HasCompleted, HasRefused};
 ghost use Rattle.mesh_state.specs.Small.{IsSmall};
 
-use crate::front::{FrontError, take_front};
+use crate::checkpoint_part::{CheckpointPartError, take_checkpoint_part};
 use crate::status::StateStatus;
 use crate::words::{Asked, asked_of};
 use mesh_io::{Sink, Source};
@@ -55,7 +55,7 @@ fn save_from<I: Source, O: Sink>(
 ) -> StateStatus
     requires start { running.old.at ≡ opening Base }
     requires say { running.old.say ≡ Faults }
-    ensures told { HasAnswered (Some Asked.Save) (I.left input.old)
+    ensures known { HasAnswered (Some Asked.Save) (I.left input.old)
         (I.left input.new) (O.held out.old) (O.held out.new) result }
     ensures end { result ≡ StateStatus.Run Status.Done → IsAtEnd (I.left input.new) }
     ensures read { HasReadCause (I.faults input.old) (I.faults input.new) result }
@@ -72,7 +72,7 @@ fn save_from<I: Source, O: Sink>(
 // goes on from a checkpoint.
 #[inline(never)]
 fn save<I: Source, O: Sink>(alloc: Global, input: &mut I, out: &mut O) -> StateStatus
-    ensures told { HasAnswered (Some Asked.Save) (I.left input.old)
+    ensures known { HasAnswered (Some Asked.Save) (I.left input.old)
         (I.left input.new) (O.held out.old) (O.held out.new) result }
     ensures end { result ≡ StateStatus.Run Status.Done → IsAtEnd (I.left input.new) }
     ensures read { HasReadCause (I.faults input.old) (I.faults input.new) result }
@@ -87,7 +87,7 @@ fn save<I: Source, O: Sink>(alloc: Global, input: &mut I, out: &mut O) -> StateS
     save_from(&mut running, input, out)
 }
 
-// The answer for a front that isn't loaded.
+// The answer for a checkpoint part that isn't loaded.
 fn answer_by(why: StateError) -> StateStatus
     ensures { result ≡ answer_by why }
 {
@@ -110,7 +110,7 @@ fn come_to(at: &mut Point<World>, state: State<World>)
 fn go_on<I: Source, O: Sink>(alloc: Global, at: State<World>, input: &mut I, out: &mut O) -> Status
     requires lines { at.lines < most_lines_before_run }
     requires steps { at.steps < most_steps_before_run }
-    ensures told { IfSome (I.left input.old) (λ bytes. IsOutputFrom All at bytes
+    ensures known { IfSome (I.left input.old) (λ bytes. IsOutputFrom All at bytes
         (I.left input.new) (O.held out.old) (O.held out.new) result) }
     ensures end { result ≡ Status.Done → IsAtEnd (I.left input.new) }
     ensures read { HasSourceCause (I.faults input.old) (I.faults input.new) result }
@@ -126,20 +126,20 @@ fn go_on<I: Source, O: Sink>(alloc: Global, at: State<World>, input: &mut I, out
     do_input(&mut running, input, out)
 }
 
-// Goes on from the checkpoint at the input's front with the lines that follow it.
+// Goes on from the checkpoint in the input with the lines that follow it.
 #[inline(never)]
 fn go<I: Source, O: Sink>(alloc: Global, input: &mut I, out: &mut O) -> StateStatus
-    ensures told { HasAnswered (Some Asked.Go) (I.left input.old)
+    ensures known { HasAnswered (Some Asked.Go) (I.left input.old)
         (I.left input.new) (O.held out.old) (O.held out.new) result }
     ensures end { result ≡ StateStatus.Run Status.Done → IsAtEnd (I.left input.new) }
     ensures read { HasReadCause (I.faults input.old) (I.faults input.new) result }
     ensures write { HasWriteCause (O.faults out.old) (O.faults out.new) result }
     ensures words { result ≢ StateStatus.Run Status.Usage }
 {
-    let loaded = match take_front(alloc, input) {
-        Ok(front) => load(alloc, &front),
-        Err(FrontError::ReadFault) => return StateStatus::Run(Status::ReadFault),
-        Err(FrontError::NoMemory) => return StateStatus::Run(Status::NoMemory),
+    let loaded = match take_checkpoint_part(alloc, input) {
+        Ok(checkpoint_part) => load(alloc, &checkpoint_part),
+        Err(CheckpointPartError::ReadFault) => return StateStatus::Run(Status::ReadFault),
+        Err(CheckpointPartError::NoMemory) => return StateStatus::Run(Status::NoMemory),
     };
     match loaded {
         Ok(at) => StateStatus::Run(go_on(alloc, at, input, out)),
@@ -154,7 +154,7 @@ fn answer<I: Source, O: Sink>(
     input: &mut I,
     out: &mut O,
 ) -> StateStatus
-    ensures told { HasAnswered (Some asked) (I.left input.old)
+    ensures known { HasAnswered (Some asked) (I.left input.old)
         (I.left input.new) (O.held out.old) (O.held out.new) result }
     ensures end { result ≡ StateStatus.Run Status.Done → IsAtEnd (I.left input.new) }
     ensures read { HasReadCause (I.faults input.old) (I.faults input.new) result }
@@ -189,12 +189,12 @@ pub fn state<I: Source, O: Sink>(
 
     // With `save` the answer is the verdict of the run; if the run is done, the checkpoint of its
     // last state is written, unless its body is too long. With `go` the answer is the first refusal
-    // of the front, and nothing is written; or the front is the checkpoint of one run state, and
-    // what is written and answered is the text and the verdict of the rest from there. After a
-    // failed read with `save` nothing is written, with `go` the text of the lines that were read
-    // whole, or nothing if fewer bytes were taken than the front has; after a failed write, or if
-    // memory runs out, a prefix.
-    ensures told { HasAnswered (asked_of (map (λ w. w.now) words.now)) (I.left input.old)
+    // of the checkpoint part, and nothing is written; or the checkpoint part is the checkpoint of
+    // one run state, and what is written and answered is the text and the verdict of the rest from
+    // there. After a failed read with `save` nothing is written, with `go` the text of the lines
+    // that were read whole, or nothing if fewer bytes were taken than the checkpoint part has;
+    // after a failed write, or if memory runs out, a prefix.
+    ensures known { HasAnswered (asked_of (map (λ w. w.now) words.now)) (I.left input.old)
         (I.left input.new) (O.held out.old) (O.held out.new) result }
 
     // If a schedule of whole lines is done, and the source gives the checkpoint of its last state
@@ -217,8 +217,8 @@ pub fn state<I: Source, O: Sink>(
     ensures complete { HasCompleted (asked_of (map (λ w. w.now) words.now)) (I.left input.old)
         (I.faults input.old) (I.faults input.new) (O.faults out.old) (O.faults out.new) result }
 
-    // If the front is refused and no read has failed, a refusal is the answer, unless memory runs
-    // out.
+    // If the checkpoint part is refused and no read has failed, a refusal is the answer, unless
+    // memory runs out.
     ensures refused { HasRefused (asked_of (map (λ w. w.now) words.now)) (I.left input.old)
         (I.faults input.old) (I.faults input.new) result }
 {

@@ -7,7 +7,7 @@ ghost use Rattle.mesh_state.specs.Words.{asked_by, asked_of};
 pub enum Asked {
     /// To run the schedule that is read, and to write the checkpoint of its last state.
     Save,
-    /// To go on from the checkpoint at the input's front with the schedule that follows it.
+    /// To go on from the checkpoint in the input with the schedule that follows it.
     Go,
 }
 

@@ -238,7 +238,7 @@ fn hear<T: Table>(
 
 // What a call did.
 #[derive(Clone, Copy, PartialEq, Eq)]
-enum Deed {
+enum Did {
     Nothing,
     Delivered,
     SentTo(usize),
@@ -246,28 +246,28 @@ enum Deed {
     Other,
 }
 
-fn deed_of(effect: Result<Option<Effect>, NoMemory>) -> Deed {
+fn did_of(effect: Result<Option<Effect>, NoMemory>) -> Did {
     let Ok(Some(effect)) = effect else {
-        return Deed::Other;
+        return Did::Other;
     };
     if effect.lost || effect.broken.is_some() {
-        return Deed::Other;
+        return Did::Other;
     }
     match effect.cast {
-        Cast::Nothing if effect.deliver => Deed::Delivered,
-        Cast::Nothing => Deed::Nothing,
-        Cast::One(to) if !effect.deliver => Deed::SentTo(to),
-        Cast::All if !effect.deliver => Deed::SentToAll,
-        _ => Deed::Other,
+        Cast::Nothing if effect.deliver => Did::Delivered,
+        Cast::Nothing => Did::Nothing,
+        Cast::One(to) if !effect.deliver => Did::SentTo(to),
+        Cast::All if !effect.deliver => Did::SentToAll,
+        _ => Did::Other,
     }
 }
 
 // What a call is to do, and the packet that it is to cast.
-type Due<'a> = (Deed, &'a [u8]);
+type Want<'a> = (Did, &'a [u8]);
 
-fn is_due(effect: Result<Option<Effect>, NoMemory>, out: &Packet, due: Due<'_>) -> bool {
-    let (deed, packet) = due;
-    deed_of(effect) == deed && out.as_slice() == packet
+fn is_wanted(effect: Result<Option<Effect>, NoMemory>, out: &Packet, want: Want<'_>) -> bool {
+    let (did, packet) = want;
+    did_of(effect) == did && out.as_slice() == packet
 }
 
 // The nodes in range of this one, of three in a row.
@@ -282,34 +282,34 @@ fn beside(node: usize) -> NodeSet {
     nodes
 }
 
-// Whether a node does what is due when it asks for a route to the third.
-fn asks<T: Table>(core: &mut Core<T>, mesh: &Mesh, due: Due<'_>, out: &mut Packet) -> bool
+// Whether a node does what is wanted when it asks for a route to the third.
+fn asks<T: Table>(core: &mut Core<T>, mesh: &Mesh, want: Want<'_>, out: &mut Packet) -> bool
     requires mesh { length mesh.now ≡ 3 }
     requires order { IsInOrder T.nodes T.entries (length mesh.now) core.old }
     ensures { IsInOrder T.nodes T.entries (length mesh.now) core.new }
 {
     let effect = ask(core, mesh, 2, out);
-    is_due(effect, out, due)
+    is_wanted(effect, out, want)
 }
 
-// Whether a node does what is due when it sends to the third.
-fn sends<T: Table>(core: &mut Core<T>, mesh: &Mesh, due: Due<'_>, out: &mut Packet) -> bool
+// Whether a node does what is wanted when it sends to the third.
+fn sends<T: Table>(core: &mut Core<T>, mesh: &Mesh, want: Want<'_>, out: &mut Packet) -> bool
     requires mesh { length mesh.now ≡ 3 }
     requires order { IsInOrder T.nodes T.entries (length mesh.now) core.old }
     ensures { IsInOrder T.nodes T.entries (length mesh.now) core.new }
 {
     let range = beside(core.me);
     let effect = send(core, mesh, &range, 2, out);
-    is_due(Ok(effect), out, due)
+    is_wanted(Ok(effect), out, want)
 }
 
-// Whether a node does what is due when it hears these bytes.
+// Whether a node does what is wanted when it hears these bytes.
 fn hears<T: Table>(
     core: &mut Core<T>,
     mesh: &Mesh,
     from: usize,
     bytes: &[u8],
-    due: Due<'_>,
+    want: Want<'_>,
     out: &mut Packet,
 ) -> bool
     requires { IsInOrder T.nodes T.entries (length mesh.now) core.old }
@@ -317,11 +317,11 @@ fn hears<T: Table>(
 {
     let range = beside(core.me);
     let effect = hear(core, mesh, &range, from, bytes, out);
-    is_due(effect, out, due)
+    is_wanted(effect, out, want)
 }
 
 // The first of three nodes in a row asks for a route to the third, and gets the reply: whether each
-// call does what is due.
+// call does what is wanted.
 fn find<T: Table>(
     first: &mut Core<T>,
     second: &mut Core<T>,
@@ -338,24 +338,24 @@ fn find<T: Table>(
     ensures third { IsInOrder T.nodes T.entries (length mesh.now) third.new }
 {
     [
-        asks(first, mesh, (Deed::SentToAll, ASKED), out),
-        hears(second, mesh, 0, ASKED, (Deed::SentToAll, ASKED_ON), out),
-        hears(first, mesh, 1, ASKED_ON, (Deed::Nothing, b""), out),
-        hears(third, mesh, 1, ASKED_ON, (Deed::SentTo(1), ANSWERED), out),
+        asks(first, mesh, (Did::SentToAll, ASKED), out),
+        hears(second, mesh, 0, ASKED, (Did::SentToAll, ASKED_ON), out),
+        hears(first, mesh, 1, ASKED_ON, (Did::Nothing, b""), out),
+        hears(third, mesh, 1, ASKED_ON, (Did::SentTo(1), ANSWERED), out),
         hears(
             second,
             mesh,
             2,
             ANSWERED,
-            (Deed::SentTo(0), ANSWERED_ON),
+            (Did::SentTo(0), ANSWERED_ON),
             out,
         ),
-        hears(first, mesh, 1, ANSWERED_ON, (Deed::Nothing, b""), out),
+        hears(first, mesh, 1, ANSWERED_ON, (Did::Nothing, b""), out),
     ]
 }
 
 // The datum that waits at the first of three nodes comes to the third: whether each call does what
-// is due.
+// is wanted.
 fn pass_on<T: Table>(
     first: &mut Core<T>,
     second: &mut Core<T>,
@@ -369,9 +369,9 @@ fn pass_on<T: Table>(
     requires third { IsInOrder T.nodes T.entries (length mesh.now) third.old }
 {
     [
-        sends(first, mesh, (Deed::SentTo(1), DATUM), out),
-        hears(second, mesh, 0, DATUM, (Deed::SentTo(2), DATUM), out),
-        hears(third, mesh, 1, DATUM, (Deed::Delivered, b""), out),
+        sends(first, mesh, (Did::SentTo(1), DATUM), out),
+        hears(second, mesh, 0, DATUM, (Did::SentTo(2), DATUM), out),
+        hears(third, mesh, 1, DATUM, (Did::Delivered, b""), out),
     ]
 }
 
@@ -466,13 +466,13 @@ fn loses_its_route<T: Table>(
     let mut out = Packet::new();
     let body = Bytes::copy_of(alloc, b"hi")?;
     let taken = takes_a_datum(core, mesh, 2, body)?;
-    let found = deed_of(hear(core, mesh, &end, 1, ANSWERED_ON, &mut out));
-    let told = deed_of(hear(core, mesh, &end, 1, BROKEN, &mut out));
+    let found = did_of(hear(core, mesh, &end, 1, ANSWERED_ON, &mut out));
+    let broken = did_of(hear(core, mesh, &end, 1, BROKEN, &mut out));
     let idle = send(core, mesh, &end, 2, &mut out).is_none();
-    let asked = deed_of(ask(core, mesh, 2, &mut out));
+    let asked = did_of(ask(core, mesh, 2, &mut out));
     let ended = link_broken(core, mesh, 1, &mut out).is_ok();
     Ok(
-        [found, told, asked] == [Deed::Nothing, Deed::Nothing, Deed::SentToAll]
+        [found, broken, asked] == [Did::Nothing, Did::Nothing, Did::SentToAll]
             && [taken, idle, ended] == [true; 3],
     )
 }

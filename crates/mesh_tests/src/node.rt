@@ -82,7 +82,7 @@ fn a_turn_is_refused(rt: HostRuntime) -> Result<(), Fail> {
     let rows: [(&[u8], TurnError, usize); 3] = [
         (
             &[],
-            TurnError::Unreadable {
+            TurnError::Malformed {
                 from: 1,
                 why: WireError::Short,
             },

@@ -230,17 +230,17 @@ impl Display for Words<'_> {
 }
 
 // Whether the bytes of these digits are what the words say.
-fn is_read(alloc: Global, digits: &str, due: &str) -> Result<bool, AllocError> {
+fn is_read(alloc: Global, digits: &str, expected: &str) -> Result<bool, AllocError> {
     let packet = packet_of(digits.as_bytes());
     let words = Words(packet.as_slice());
-    Ok(format!(in alloc; "{words}")?.as_str() == due)
+    Ok(format!(in alloc; "{words}")?.as_str() == expected)
 }
 
 #[test]
 fn outside_packets_are_read(rt: HostRuntime) -> Result<(), Fail> {
     for row in PACKETS.lines() {
-        let (digits, due) = row.split_once(' ').unwrap_or((row, ""));
-        assert!(rt; is_read(rt.alloc(), digits, due)?, "{digits}");
+        let (digits, expected) = row.split_once(' ').unwrap_or((row, ""));
+        assert!(rt; is_read(rt.alloc(), digits, expected)?, "{digits}");
     }
     assert!(rt; PACKETS.lines().count() == 173);
     Ok(())

@@ -54,12 +54,12 @@ fn refuses_as_the_formats_say(rt: HostRuntime) {
     }
 }
 
-fn is_request(bytes: &[u8], due: Rreq) -> bool {
-    matches!(read(bytes), Ok(Message::Rreq(m)) if m == due)
+fn is_request(bytes: &[u8], expected: Rreq) -> bool {
+    matches!(read(bytes), Ok(Message::Rreq(m)) if m == expected)
 }
 
-fn is_reply(bytes: &[u8], due: Rrep) -> bool {
-    matches!(read(bytes), Ok(Message::Rrep(m)) if m == due)
+fn is_reply(bytes: &[u8], expected: Rrep) -> bool {
+    matches!(read(bytes), Ok(Message::Rrep(m)) if m == expected)
 }
 
 #[test]

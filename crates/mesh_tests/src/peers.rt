@@ -92,7 +92,7 @@ fn are_refused(cases: &[(&[u8], LineFault)], peers: &Peers, started: bool) -> bo
     true
 }
 
-fn faults_are_told(peers: &mut Peers) -> bool {
+fn faults_are_given(peers: &mut Peers) -> bool {
     are_refused(&EARLY, peers, false)
         && three(peers)
         && are_refused(&NAMED, peers, false)
@@ -100,9 +100,9 @@ fn faults_are_told(peers: &mut Peers) -> bool {
 }
 
 #[test]
-fn the_first_fault_is_told(rt: HostRuntime) {
+fn the_first_fault_is_given(rt: HostRuntime) {
     let mut peers = Peers::new();
-    assert!(rt; faults_are_told(&mut peers));
+    assert!(rt; faults_are_given(&mut peers));
 }
 
 /// Lines after the three nodes were named, and how they are written back.

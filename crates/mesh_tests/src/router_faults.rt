@@ -68,7 +68,7 @@ fn run_over(
 // Whether a run of the script over a link that fails at that call answers this, and writes the text
 // or a prefix of it. The link's opening is its first call.
 #[tactic(auto, unfolding(mesh_link::specs::Memory::new_link))]
-fn is_told(rt: &HostRuntime, fails: &[u64], status: NodeStatus) -> Result<bool, Fail> {
+fn is_answered(rt: &HostRuntime, fails: &[u64], status: NodeStatus) -> Result<bool, Fail> {
     let mut link = MemLink::new(rt.alloc(), 4, fails)?;
     arrive(rt, &mut link)?;
     let script = Bytes::copy_of(rt.alloc(), SCRIPT)?;
@@ -81,7 +81,7 @@ fn is_told(rt: &HostRuntime, fails: &[u64], status: NodeStatus) -> Result<bool, 
 
 #[test]
 fn hostile_datagrams_are_dropped(rt: HostRuntime) -> Result<(), Fail> {
-    assert!(rt; is_told(&rt, &[], NodeStatus::Done)?);
+    assert!(rt; is_answered(&rt, &[], NodeStatus::Done)?);
     Ok(())
 }
 
@@ -89,8 +89,8 @@ fn hostile_datagrams_are_dropped(rt: HostRuntime) -> Result<(), Fail> {
 #[test]
 fn each_call_of_the_link_can_fail(rt: HostRuntime) -> Result<(), Fail> {
     for call in 2..8 {
-        assert!(rt; is_told(&rt, &[call], NodeStatus::LinkFault)?);
+        assert!(rt; is_answered(&rt, &[call], NodeStatus::LinkFault)?);
     }
-    assert!(rt; is_told(&rt, &[8], NodeStatus::Done)?);
+    assert!(rt; is_answered(&rt, &[8], NodeStatus::Done)?);
     Ok(())
 }

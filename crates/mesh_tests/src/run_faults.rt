@@ -156,7 +156,7 @@ fn ran(
 }
 
 // Whether the whole text of the run with a route is written.
-fn is_route_told(alloc: Global, read: Way<'_>, write: Way<'_>) -> Result<bool, Fail>
+fn is_route_written(alloc: Global, read: Way<'_>, write: Way<'_>) -> Result<bool, Fail>
     requires read { 0 < read.most }
     requires write { 0 < write.most }
 {
@@ -165,25 +165,25 @@ fn is_route_told(alloc: Global, read: Way<'_>, write: Way<'_>) -> Result<bool, F
 }
 
 // Whether the run with a datum answers this, and this many bytes of its text are written.
-fn is_datum_told(
+fn is_datum_written(
     alloc: Global,
     read: Way<'_>,
     write: Way<'_>,
     status: Status,
-    told: usize,
+    written: usize,
 ) -> Result<bool, Fail>
     requires read { 0 < read.most }
     requires write { 0 < write.most }
-    requires told { told ≤ 188 }
+    requires written { written ≤ 188 }
 {
     let (answer, out) = ran(alloc, DATUM, read, write)?;
-    Ok(answer == status && out.held() == &DATUM_TEXT[..told])
+    Ok(answer == status && out.held() == &DATUM_TEXT[..written])
 }
 
 #[test]
 fn few_bytes_a_call_make_no_difference(rt: HostRuntime) -> Result<(), Fail> {
-    assert!(rt; is_route_told(rt.alloc(), few(1), few(WHOLE))?);
-    assert!(rt; is_route_told(rt.alloc(), few(WHOLE), few(1))?);
+    assert!(rt; is_route_written(rt.alloc(), few(1), few(WHOLE))?);
+    assert!(rt; is_route_written(rt.alloc(), few(WHOLE), few(1))?);
     Ok(())
 }
 
@@ -201,22 +201,22 @@ fn text_read(bytes: usize) -> usize
 
 // Whether a run over a source that gives seven bytes a call, and fails at this one, has this
 // answer, with this much of the text written.
-fn reads_until(alloc: Global, call: usize, status: Status, told: usize) -> Result<bool, Fail>
-    requires { told ≤ 188 }
+fn reads_until(alloc: Global, call: usize, status: Status, written: usize) -> Result<bool, Fail>
+    requires { written ≤ 188 }
 {
     let read = Way {
         most: 7,
         fails: &[call as u64],
     };
-    is_datum_told(alloc, read, few(WHOLE), status, told)
+    is_datum_written(alloc, read, few(WHOLE), status, written)
 }
 
 // The eighth call gives the last bytes, and the ninth says that there are no more.
 #[test]
 fn a_failed_read_leaves_the_text_of_the_lines_before_it(rt: HostRuntime) -> Result<(), Fail> {
     for call in 1..10 {
-        let told = text_read(7 * (call - 1));
-        assert!(rt; reads_until(rt.alloc(), call, Status::ReadFault, told)?);
+        let written = text_read(7 * (call - 1));
+        assert!(rt; reads_until(rt.alloc(), call, Status::ReadFault, written)?);
     }
     assert!(rt; reads_until(rt.alloc(), 10, Status::Done, DATUM_TEXT.len())?);
     Ok(())
@@ -236,22 +236,22 @@ fn text_put(calls: usize) -> usize
 
 // Whether a run over a sink that takes five bytes a call, and fails at this one, has this answer,
 // with this much of the text written.
-fn writes_until(alloc: Global, call: usize, status: Status, told: usize) -> Result<bool, Fail>
-    requires { told ≤ 188 }
+fn writes_until(alloc: Global, call: usize, status: Status, written: usize) -> Result<bool, Fail>
+    requires { written ≤ 188 }
 {
     let write = Way {
         most: 5,
         fails: &[call as u64],
     };
-    is_datum_told(alloc, few(WHOLE), write, status, told)
+    is_datum_written(alloc, few(WHOLE), write, status, written)
 }
 
 // The 39th call puts the last bytes.
 #[test]
 fn a_failed_write_leaves_a_prefix_of_the_text(rt: HostRuntime) -> Result<(), Fail> {
     for call in 1..40 {
-        let told = text_put(call - 1);
-        assert!(rt; writes_until(rt.alloc(), call, Status::WriteFault, told)?);
+        let written = text_put(call - 1);
+        assert!(rt; writes_until(rt.alloc(), call, Status::WriteFault, written)?);
     }
     assert!(rt; writes_until(rt.alloc(), 40, Status::Done, DATUM_TEXT.len())?);
     Ok(())

@@ -55,7 +55,7 @@ fn are_refused(cases: &[(&[u8], LineFault)], mesh: &Mesh, started: bool) -> bool
 }
 
 #[test]
-fn the_first_fault_is_told(rt: HostRuntime) -> Result<(), Fail> {
+fn the_first_fault_is_given(rt: HostRuntime) -> Result<(), Fail> {
     assert!(rt; are_refused(&EARLY, &Mesh::new(), false));
     assert!(rt; are_refused(&LATE, &two_nodes()?, true));
     Ok(())

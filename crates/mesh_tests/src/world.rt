@@ -26,8 +26,8 @@ const FOUND: [Event<'static>; 5] = [
     Event::Turn { node: 0 },
 ];
 
-// The least ask and the least send that are due.
-fn due<S: Steps>(world: &S) -> (Option<(usize, usize)>, Option<(usize, usize)>) {
+// The least ask and the least send that are enabled.
+fn least<S: Steps>(world: &S) -> (Option<(usize, usize)>, Option<(usize, usize)>) {
     let world = world.world();
     (world.first_ask(), world.first_send())
 }
@@ -53,12 +53,12 @@ fn delivers<S: Steps>(world: &mut S, alloc: Global) -> Result<bool, Fail> {
     Ok(matches!(&done, Done::Taken { effect, .. } if effect.deliver))
 }
 
-// Whether a request is due as soon as a datum waits, and a send as soon as the route is found.
+// Whether a request is enabled as soon as a datum waits, and a send as soon as the route is found.
 fn finds<S: Steps>(world: &mut S, alloc: Global) -> Result<bool, Fail> {
     advance_all(world, alloc, &BEGUN)?;
-    let asks = matches!(due(world), (Some((0, 1)), None));
+    let asks = matches!(least(world), (Some((0, 1)), None));
     advance_all(world, alloc, &FOUND)?;
-    let sends = matches!(due(world), (None, Some((0, 1))));
+    let sends = matches!(least(world), (None, Some((0, 1))));
     Ok(asks && sends)
 }
 

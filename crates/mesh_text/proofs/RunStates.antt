@@ -16,7 +16,7 @@ use Rattle.mesh_model.specs.Invariants.{IsInvariant}
 use Rattle.mesh_model.proofs.Sizes.{same_size, start_size}
 use Rattle.mesh_model.proofs.MeshSteps.{step_keeps, start_keeps}
 use Rattle.mesh_model.proofs.AccountSteps.{step_balanced, start_empty}
-use Rattle.mesh_model.proofs.Doublings.{doubling_told}
+use Rattle.mesh_model.proofs.Doublings.{doubling_counted}
 use Rattle.mesh_model.proofs.Chosen.{OnSome}
 use Rattle.mesh_grammar.specs.declared.fault.LineFault.{LineFault}
 use Rattle.mesh_shell.specs.Fold as shell
@@ -119,7 +119,7 @@ copied_at_most (Next w world_effect) = doubled_at_most world_effect
 
 not_both : (w : World) (e : Event) → given_data any e (step w e) + doubled_data any w e ≤ if_goes (step w e) 1
 not_both w (Give x d body) = omega (arith, given_at_most (Give x d body) (step w (Give x d body)))
-not_both w (Double id) = omega (arith, copied_at_most (step w (Double id)), doubling_told w (Double id))
+not_both w (Double id) = omega (arith, copied_at_most (step w (Double id)), doubling_counted w (Double id))
 not_both w others = omega arith
 
 goes_or_idle : (o : Outcome) → idle_by o + if_goes o 1 ≤ 1
@@ -129,13 +129,13 @@ goes_or_idle (Next w world_effect) = omega arith
 
 -- an event is idle, or gives a datum, or doubles one, or none of these
 one_at_most : (w : World) (e : Event) → idle_by (step w e) + given_data any e (step w e) + doubled_at (step w e) ≤ 1
-one_at_most w e = omega (arith, not_both w e, doubling_told w e, goes_or_idle (step w e))
+one_at_most w e = omega (arith, not_both w e, doubling_counted w e, goes_or_idle (step w e))
 
 pub event_keeps_account : EventKeepsAccount
 unfolding next_state
 event_keeps_account m e in_mesh within before =
     let account = step_balanced any (world_of m) e within in_mesh in
-    let copied = doubling_told (world_of m) e in
+    let copied = doubling_counted (world_of m) e in
     omega arith
 
 pub stepped_kept : (m : RunState) (e : Event) → IsEvent (length m.mesh) e → IsKept m → IsKept (next_state m e)

@@ -77,12 +77,12 @@ near_known w nodes casts x (fronts.Heard y s) n hand now t at known near r = λ 
 
 -- ---- whether a node is prepared depends on the lists in hand alone
 
-pub prepared_so : (x : ℕ) (front : Front) (rows : List (List ℕ)) (l : List ℕ) (hand now : Hand) → now.near ≡ hand.near → now.told ≡ hand.told → now.room ≡ hand.room → IsPrepared x front rows l hand → IsPrepared x front rows l now
-prepared_so x fronts.Empty rows l hand now near told room r = subst (λ k. 1 ≤ k) (sym room) r
-prepared_so x fronts.New rows l hand now near told room r = subst (λ k. 1 ≤ k) (sym room) r
-prepared_so x (fronts.Heard y s) rows l hand now near told room r = record {
+pub prepared_so : (x : ℕ) (front : Front) (rows : List (List ℕ)) (l : List ℕ) (hand now : Hand) → now.near ≡ hand.near → now.announced ≡ hand.announced → now.room ≡ hand.room → IsPrepared x front rows l hand → IsPrepared x front rows l now
+prepared_so x fronts.Empty rows l hand now near announced room r = subst (λ k. 1 ≤ k) (sym room) r
+prepared_so x fronts.New rows l hand now near announced room r = subst (λ k. 1 ≤ k) (sym room) r
+prepared_so x (fronts.Heard y s) rows l hand now near announced room r = record {
   near = near ∙ r.near;
-  told = told ∙ r.told;
+  announced = announced ∙ r.announced;
   two = subst (λ k. 2 ≤ k) (sym room) r.two;
   more = subst (λ k. length l + 1 ≤ k) (sym room) r.more;
   reply = subst (λ k. FitsReply rows k s) (sym room) r.reply;

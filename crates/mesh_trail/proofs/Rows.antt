@@ -11,11 +11,11 @@ use Rattle.aodv_model.specs.Cores.{Message, Pkt, Rreq, Rrep, Rerr}
 use Rattle.mesh_model.proofs.Lists.{set_other}
 use Rattle.mesh_world.proofs.Frames.{set_got}
 use Rattle.mesh_model.specs.Kept as walks
-use Rattle.mesh_model.specs.Kept.{entries_after, entry_list, is_near, is_told, is_route, first_list, own_list}
+use Rattle.mesh_model.specs.Kept.{entries_after, entry_list, is_near, is_announced, is_route, first_list, own_list}
 use Rattle.mesh_trail.specs.declared.said.Said.{Said}
 use Rattle.mesh_trail.specs.declared.heard.Front.TheVariants as fronts
 use Rattle.mesh_trail.specs.Said.{said_of, IsSaidIn}
-use Rattle.mesh_trail.specs.Heard.{leads_to, tells, lesson_of}
+use Rattle.mesh_trail.specs.Heard.{leads_to, announces, lesson_of}
 use Rattle.mesh_trail.specs.Lists.{list_in, row, put_if, after_lesson, reply_list}
 use Rattle.mesh_trail.specs.Steps.{front_list, rows_after, sent_after}
 
@@ -68,36 +68,36 @@ put_within false rows d l q k new old = old
 -- ---- what is learnt
 
 abbrev pick : Bool → Bool → List ℕ → List ℕ → List ℕ → List ℕ
-pick a b near told old = if a then near else if b then told else old
+pick a b near announced old = if a then near else if b then announced else old
 
-turned_pick : (a b : Bool) (near told old : List ℕ) → reverse (pick a b near told old) ≡ pick a b (reverse near) (reverse told) (reverse old)
-turned_pick true b near told old = refl
-turned_pick false true near told old = refl
-turned_pick false false near told old = refl
+turned_pick : (a b : Bool) (near announced old : List ℕ) → reverse (pick a b near announced old) ≡ pick a b (reverse near) (reverse announced) (reverse old)
+turned_pick true b near announced old = refl
+turned_pick false true near announced old = refl
+turned_pick false false near announced old = refl
 
-same_dest : (t n a : Bool) (near told old : List ℕ) → (if (t && not (n && a)) && true then told else (if n && a then near else old)) ≡ pick (a && n) (true && t) near told old
-same_dest true true true near told old = refl
-same_dest true true false near told old = refl
-same_dest true false true near told old = refl
-same_dest true false false near told old = refl
-same_dest false true true near told old = refl
-same_dest false true false near told old = refl
-same_dest false false true near told old = refl
-same_dest false false false near told old = refl
+same_dest : (t n a : Bool) (near announced old : List ℕ) → (if (t && not (n && a)) && true then announced else (if n && a then near else old)) ≡ pick (a && n) (true && t) near announced old
+same_dest true true true near announced old = refl
+same_dest true true false near announced old = refl
+same_dest true false true near announced old = refl
+same_dest true false false near announced old = refl
+same_dest false true true near announced old = refl
+same_dest false true false near announced old = refl
+same_dest false false true near announced old = refl
+same_dest false false false near announced old = refl
 
-other_dest : (t n a b : Bool) (near told old : List ℕ) → (if (t && not (n && b)) && false then told else (if n && a then near else old)) ≡ pick (a && n) (false && t) near told old
-other_dest true true true true near told old = refl
-other_dest true true true false near told old = refl
-other_dest true true false true near told old = refl
-other_dest true true false false near told old = refl
-other_dest true false true b near told old = refl
-other_dest true false false b near told old = refl
-other_dest false true true true near told old = refl
-other_dest false true true false near told old = refl
-other_dest false true false true near told old = refl
-other_dest false true false false near told old = refl
-other_dest false false true b near told old = refl
-other_dest false false false b near told old = refl
+other_dest : (t n a b : Bool) (near announced old : List ℕ) → (if (t && not (n && b)) && false then announced else (if n && a then near else old)) ≡ pick (a && n) (false && t) near announced old
+other_dest true true true true near announced old = refl
+other_dest true true true false near announced old = refl
+other_dest true true false true near announced old = refl
+other_dest true true false false near announced old = refl
+other_dest true false true b near announced old = refl
+other_dest true false false b near announced old = refl
+other_dest false true true true near announced old = refl
+other_dest false true true false near announced old = refl
+other_dest false true false true near announced old = refl
+other_dest false true false false near announced old = refl
+other_dest false false true b near announced old = refl
+other_dest false false false b near announced old = refl
 
 turned_eq : (y d q : ℕ) → q ≡ d → (y == d) ≡ (q == y)
 turned_eq y d q e = subst (λ (k : ℕ). (y == d) ≡ (k == y)) (sym e) (swap y d)
@@ -105,17 +105,17 @@ turned_eq y d q e = subst (λ (k : ℕ). (y == d) ≡ (k == y)) (sym e) (swap y 
     swap : (a b : ℕ) → (a == b) ≡ (b == a)
     swap a b = grind (arith, nat_tests)
 
-row_learnt : (t n : Bool) (rows : List (List ℕ)) (y d : ℕ) (near told : List ℕ) (q : ℕ) → y < length rows → d < length rows
-    → row (put_if (t && not (n && (y == d))) d told (put_if n y near rows)) q ≡ pick ((q == y) && n) ((q == d) && t) near told (row rows q)
-row_learnt t n rows y d near told q ly ld =
+row_learnt : (t n : Bool) (rows : List (List ℕ)) (y d : ℕ) (near announced : List ℕ) (q : ℕ) → y < length rows → d < length rows
+    → row (put_if (t && not (n && (y == d))) d announced (put_if n y near rows)) q ≡ pick ((q == y) && n) ((q == d) && t) near announced (row rows q)
+row_learnt t n rows y d near announced q ly ld =
     let size = put_length n rows y near in
-    row_put (t && not (n && (y == d))) (put_if n y near rows) d told q (omega arith)
-    ∙ ap (λ (l : List ℕ). if (t && not (n && (y == d))) && (q == d) then told else l) (row_put n rows y near q ly)
+    row_put (t && not (n && (y == d))) (put_if n y near rows) d announced q (omega arith)
+    ∙ ap (λ (l : List ℕ). if (t && not (n && (y == d))) && (q == d) then announced else l) (row_put n rows y near q ly)
     ∙ by (q == d) refl
   where
-    by : (b : Bool) → (q == d) ≡ b → (if (t && not (n && (y == d))) && (q == d) then told else (if n && (q == y) then near else row rows q)) ≡ pick ((q == y) && n) ((q == d) && t) near told (row rows q)
-    by true is = rw (is, turned_eq y d q (eqb-true q d is)) (same_dest t n (q == y) near told (row rows q))
-    by false is = rw is (other_dest t n (q == y) (y == d) near told (row rows q))
+    by : (b : Bool) → (q == d) ≡ b → (if (t && not (n && (y == d))) && (q == d) then announced else (if n && (q == y) then near else row rows q)) ≡ pick ((q == y) && n) ((q == d) && t) near announced (row rows q)
+    by true is = rw (is, turned_eq y d q (eqb-true q d is)) (same_dest t n (q == y) near announced (row rows q))
+    by false is = rw is (other_dest t n (q == y) (y == d) near announced (row rows q))
 
 -- a test at q where q is y
 same_at : (f : ℕ → Bool) (q y : ℕ) → ((q == y) && f q) ≡ ((q == y) && f y)
@@ -130,48 +130,48 @@ and_false true = refl
 and_false false = refl
 
 -- what is said in an entry of the route from y to d
-entry_is : (x y d n h : ℕ) (m : Message) (l : List ℕ) (q : ℕ) (old : List ℕ) (o : Option Entry) → ((e : Entry) → is_told y m q e ≡ is_route y d n h q e)
-    → entry_list x y m l q old o ≡ pick ((q == y) && leads_to y o) ((q == d) && tells y n h o) (x ∷ y ∷ []) (x ∷ l) old
-entry_is x y d n h m l q old None told = rw (and_false (q == y), and_false (q == d)) refl
-entry_is x y d n h m l q old (Some e) told = ap (λ (b : Bool). pick (is_near y q e) b (x ∷ y ∷ []) (x ∷ l) old) (told e)
+entry_is : (x y d n h : ℕ) (m : Message) (l : List ℕ) (q : ℕ) (old : List ℕ) (o : Option Entry) → ((e : Entry) → is_announced y m q e ≡ is_route y d n h q e)
+    → entry_list x y m l q old o ≡ pick ((q == y) && leads_to y o) ((q == d) && announces y n h o) (x ∷ y ∷ []) (x ∷ l) old
+entry_is x y d n h m l q old None announced = rw (and_false (q == y), and_false (q == d)) refl
+entry_is x y d n h m l q old (Some e) announced = ap (λ (b : Bool). pick (is_near y q e) b (x ∷ y ∷ []) (x ∷ l) old) (announced e)
 
-entry_untold : (x y : ℕ) (m : Message) (l : List ℕ) (q : ℕ) (old : List ℕ) (o : Option Entry) → ((e : Entry) → is_told y m q e ≡ false)
+entry_unannounced : (x y : ℕ) (m : Message) (l : List ℕ) (q : ℕ) (old : List ℕ) (o : Option Entry) → ((e : Entry) → is_announced y m q e ≡ false)
     → entry_list x y m l q old o ≡ pick ((q == y) && leads_to y o) false (x ∷ y ∷ []) (x ∷ l) old
-entry_untold x y m l q old None told = rw (and_false (q == y)) refl
-entry_untold x y m l q old (Some e) told = ap (λ (b : Bool). pick (is_near y q e) b (x ∷ y ∷ []) (x ∷ l) old) (told e)
+entry_unannounced x y m l q old None announced = rw (and_false (q == y)) refl
+entry_unannounced x y m l q old (Some e) announced = ap (λ (b : Bool). pick (is_near y q e) b (x ∷ y ∷ []) (x ∷ l) old) (announced e)
 
-route_row : (rt : Table) (x y d n h : ℕ) (m : Message) (rows : List (List ℕ)) (l near told : List ℕ) (q : ℕ) → ((e : Entry) → is_told y m q e ≡ is_route y d n h q e)
-    → y < length rows → d < length rows → near ≡ y ∷ x ∷ [] → told ≡ l ++ x ∷ []
-    → reverse (row (put_if (tells y n h (maps.get rt d) && not (leads_to y (maps.get rt y) && (y == d))) d told (put_if (leads_to y (maps.get rt y)) y near rows)) q)
+route_row : (rt : Table) (x y d n h : ℕ) (m : Message) (rows : List (List ℕ)) (l near announced : List ℕ) (q : ℕ) → ((e : Entry) → is_announced y m q e ≡ is_route y d n h q e)
+    → y < length rows → d < length rows → near ≡ y ∷ x ∷ [] → announced ≡ l ++ x ∷ []
+    → reverse (row (put_if (announces y n h (maps.get rt d) && not (leads_to y (maps.get rt y) && (y == d))) d announced (put_if (leads_to y (maps.get rt y)) y near rows)) q)
     ≡ entry_list x y m (reverse l) q (reverse (row rows q)) (maps.get rt q)
-route_row rt x y d n h m rows l near told q says ly ld near_is told_is =
-    ap reverse (row_learnt (tells y n h (maps.get rt d)) (leads_to y (maps.get rt y)) rows y d near told q ly ld)
-    ∙ turned_pick ((q == y) && leads_to y (maps.get rt y)) ((q == d) && tells y n h (maps.get rt d)) near told (row rows q)
-    ∙ (λ i. pick (sym (same_at (λ k. leads_to y (maps.get rt k)) q y) i) (sym (same_at (λ k. tells y n h (maps.get rt k)) q d) i) (ap reverse near_is i) ((ap reverse told_is ∙ turned_push l x) i) (reverse (row rows q)))
+route_row rt x y d n h m rows l near announced q says ly ld near_is announced_is =
+    ap reverse (row_learnt (announces y n h (maps.get rt d)) (leads_to y (maps.get rt y)) rows y d near announced q ly ld)
+    ∙ turned_pick ((q == y) && leads_to y (maps.get rt y)) ((q == d) && announces y n h (maps.get rt d)) near announced (row rows q)
+    ∙ (λ i. pick (sym (same_at (λ k. leads_to y (maps.get rt k)) q y) i) (sym (same_at (λ k. announces y n h (maps.get rt k)) q d) i) (ap reverse near_is i) ((ap reverse announced_is ∙ turned_push l x) i) (reverse (row rows q)))
     ∙ sym (entry_is x y d n h m (reverse l) q (reverse (row rows q)) (maps.get rt q) says)
 
-pub turned_rows : (rt : Table) (x y : ℕ) (m : Message) (rows : List (List ℕ)) (l near told : List ℕ) (q : ℕ) → y < length rows → IsSaidIn (length rows) (said_of m) → near ≡ y ∷ x ∷ [] → told ≡ l ++ x ∷ []
-    → reverse (row (rows_after rt (fronts.Heard y (said_of m)) near told rows) q) ≡ entries_after x y m (reverse l) rt (λ d. reverse (row rows d)) q
-turned_rows rt x y (Pkt b d o) rows l near told q ly inside near_is told_is = refl
-turned_rows rt x y (Rreq m) rows l near told q ly inside near_is told_is = route_row rt x y m.oip m.osn m.hops (Rreq m) rows l near told q (λ e. refl) ly inside.0 near_is told_is
-turned_rows rt x y (Rrep m) rows l near told q ly inside near_is told_is = route_row rt x y m.dip m.dsn m.hops (Rrep m) rows l near told q (λ e. refl) ly inside near_is told_is
-turned_rows rt x y (Rerr dests) rows l near told q ly inside near_is told_is =
+pub turned_rows : (rt : Table) (x y : ℕ) (m : Message) (rows : List (List ℕ)) (l near announced : List ℕ) (q : ℕ) → y < length rows → IsSaidIn (length rows) (said_of m) → near ≡ y ∷ x ∷ [] → announced ≡ l ++ x ∷ []
+    → reverse (row (rows_after rt (fronts.Heard y (said_of m)) near announced rows) q) ≡ entries_after x y m (reverse l) rt (λ d. reverse (row rows d)) q
+turned_rows rt x y (Pkt b d o) rows l near announced q ly inside near_is announced_is = refl
+turned_rows rt x y (Rreq m) rows l near announced q ly inside near_is announced_is = route_row rt x y m.oip m.osn m.hops (Rreq m) rows l near announced q (λ e. refl) ly inside.0 near_is announced_is
+turned_rows rt x y (Rrep m) rows l near announced q ly inside near_is announced_is = route_row rt x y m.dip m.dsn m.hops (Rrep m) rows l near announced q (λ e. refl) ly inside near_is announced_is
+turned_rows rt x y (Rerr dests) rows l near announced q ly inside near_is announced_is =
     let n = leads_to y (maps.get rt y) in
     ap reverse (row_put n rows y near q ly ∙ swapped n (q == y) near (row rows q))
-    ∙ turned_pick ((q == y) && n) false near told (row rows q)
-    ∙ (λ i. pick (sym (same_at (λ k. leads_to y (maps.get rt k)) q y) i) false (ap reverse near_is i) ((ap reverse told_is ∙ turned_push l x) i) (reverse (row rows q)))
-    ∙ sym (entry_untold x y (Rerr dests) (reverse l) q (reverse (row rows q)) (maps.get rt q) (λ e. refl))
+    ∙ turned_pick ((q == y) && n) false near announced (row rows q)
+    ∙ (λ i. pick (sym (same_at (λ k. leads_to y (maps.get rt k)) q y) i) false (ap reverse near_is i) ((ap reverse announced_is ∙ turned_push l x) i) (reverse (row rows q)))
+    ∙ sym (entry_unannounced x y (Rerr dests) (reverse l) q (reverse (row rows q)) (maps.get rt q) (λ e. refl))
   where
-    swapped : (n a : Bool) (near old : List ℕ) → (if n && a then near else old) ≡ pick (a && n) false near told old
+    swapped : (n a : Bool) (near old : List ℕ) → (if n && a then near else old) ≡ pick (a && n) false near announced old
     swapped true true near old = refl
     swapped true false near old = refl
     swapped false true near old = refl
     swapped false false near old = refl
 
-pub rows_count : (rt : Table) (y : ℕ) (s : Said) (near told : List ℕ) (rows : List (List ℕ)) → length (after_lesson (lesson_of rt y s) near told rows) ≡ length rows
-rows_count rt y s near told rows =
+pub rows_count : (rt : Table) (y : ℕ) (s : Said) (near announced : List ℕ) (rows : List (List ℕ)) → length (after_lesson (lesson_of rt y s) near announced rows) ≡ length rows
+rows_count rt y s near announced rows =
     let l = lesson_of rt y s in
-    put_length (l.told && not (l.near && (l.from == l.dest))) (put_if l.near l.from near rows) l.dest told ∙ put_length l.near rows l.from near
+    put_length (l.announced && not (l.near && (l.from == l.dest))) (put_if l.near l.from near rows) l.dest announced ∙ put_length l.near rows l.from near
 
 -- ---- what is cast
 

@@ -47,42 +47,42 @@ choice_fits : (b : Bool) (x room : ℕ) (l : List ℕ) → 2 ≤ room → length
 choice_fits true x room l two le = omega arith
 choice_fits false x room l two le = le
 
-learnt_fits : (rt : Table) (y : ℕ) (s : Said) (near told : List ℕ) (rows : List (List ℕ)) (q room : ℕ) → length near ≤ room → length told ≤ room → length (row rows q) ≤ room → length (row (after_lesson (lesson_of rt y s) near told rows) q) ≤ room
-learnt_fits rt y s near told rows q room a b c =
+learnt_fits : (rt : Table) (y : ℕ) (s : Said) (near announced : List ℕ) (rows : List (List ℕ)) (q room : ℕ) → length near ≤ room → length announced ≤ room → length (row rows q) ≤ room → length (row (after_lesson (lesson_of rt y s) near announced rows) q) ≤ room
+learnt_fits rt y s near announced rows q room a b c =
     let l = lesson_of rt y s in
-    put_within (l.told && not (l.near && (l.from == l.dest))) (put_if l.near l.from near rows) l.dest told q room b (put_within l.near rows l.from near q room a c)
+    put_within (l.announced && not (l.near && (l.from == l.dest))) (put_if l.near l.from near rows) l.dest announced q room b (put_within l.near rows l.from near q room a c)
 
-reply_fits : (rt : Table) (x y : ℕ) (s : Said) (near told : List ℕ) (rows : List (List ℕ)) (room : ℕ) → 2 ≤ room → length near ≤ room → length told ≤ room → FitsReply rows room s → length (reply_list x (after_lesson (lesson_of rt y s) near told rows) s) ≤ room
-reply_fits rt x y says.Parcel near told rows room two a b fits = omega arith
-reply_fits rt x y says.Error near told rows room two a b fits = omega arith
-reply_fits rt x y (says.Request o n h d) near told rows room two a b fits = choice_fits (d == x) x room _ two (learnt_fits rt y (says.Request o n h d) near told rows d room a b fits)
-reply_fits rt x y (says.Reply d n h) near told rows room two a b fits = learnt_fits rt y (says.Reply d n h) near told rows d room a b fits
+reply_fits : (rt : Table) (x y : ℕ) (s : Said) (near announced : List ℕ) (rows : List (List ℕ)) (room : ℕ) → 2 ≤ room → length near ≤ room → length announced ≤ room → FitsReply rows room s → length (reply_list x (after_lesson (lesson_of rt y s) near announced rows) s) ≤ room
+reply_fits rt x y says.Parcel near announced rows room two a b fits = omega arith
+reply_fits rt x y says.Error near announced rows room two a b fits = omega arith
+reply_fits rt x y (says.Request o n h d) near announced rows room two a b fits = choice_fits (d == x) x room _ two (learnt_fits rt y (says.Request o n h d) near announced rows d room a b fits)
+reply_fits rt x y (says.Reply d n h) near announced rows room two a b fits = learnt_fits rt y (says.Reply d n h) near announced rows d room a b fits
 
-heard_fits : (rt : Table) (x y : ℕ) (s : Said) (rows : List (List ℕ)) (l : List ℕ) (hand : Hand) → IsInHand x y s rows l hand → (cast : Said) → length (sent_list x (after_lesson (lesson_of rt y s) hand.near hand.told rows) s l cast) ≤ hand.room
+heard_fits : (rt : Table) (x y : ℕ) (s : Said) (rows : List (List ℕ)) (l : List ℕ) (hand : Hand) → IsInHand x y s rows l hand → (cast : Said) → length (sent_list x (after_lesson (lesson_of rt y s) hand.near hand.announced rows) s l cast) ≤ hand.room
 heard_fits rt x y s rows l hand r says.Parcel = let two = r.two in omega arith
 heard_fits rt x y s rows l hand r says.Error = let two = r.two in omega arith
 heard_fits rt x y s rows l hand r (says.Request o n h d) = let e = pair_long l x in let more = r.more in omega arith
 heard_fits rt x y s rows l hand r (says.Reply d n h) =
     let two = r.two in let more = r.more in
     let near : length hand.near ≡ 2 = ap length r.near in
-    let told : length hand.told ≡ length l + 1 = ap length r.told ∙ pair_long l x in
-    reply_fits rt x y s hand.near hand.told rows hand.room r.two (omega arith) (omega arith) r.reply
+    let announced : length hand.announced ≡ length l + 1 = ap length r.announced ∙ pair_long l x in
+    reply_fits rt x y s hand.near hand.announced rows hand.room r.two (omega arith) (omega arith) r.reply
 
-pub room_for : (rt : Table) (x : ℕ) (front : Front) (rows : List (List ℕ)) (l : List ℕ) (hand : Hand) → IsPrepared x front rows l hand → HasRoomFor x front (rows_after rt front hand.near hand.told rows) l hand.room
+pub room_for : (rt : Table) (x : ℕ) (front : Front) (rows : List (List ℕ)) (l : List ℕ) (hand : Hand) → IsPrepared x front rows l hand → HasRoomFor x front (rows_after rt front hand.near hand.announced rows) l hand.room
 room_for rt x fronts.Empty rows l hand prepared = own_fits x rows hand.room prepared
 room_for rt x fronts.New rows l hand prepared = own_fits x rows hand.room prepared
 room_for rt x (fronts.Heard y s) rows l hand prepared = heard_fits rt x y s rows l hand prepared
 
-pub room_so : (rt : Table) (x : ℕ) (front : Front) (rows now : List (List ℕ)) (l list : List ℕ) (hand : Hand) (room : ℕ) → IsPrepared x front rows l hand → now ≡ rows_after rt front hand.near hand.told rows → list ≡ l → room ≡ hand.room → HasRoomFor x front now list room
+pub room_so : (rt : Table) (x : ℕ) (front : Front) (rows now : List (List ℕ)) (l list : List ℕ) (hand : Hand) (room : ℕ) → IsPrepared x front rows l hand → now ≡ rows_after rt front hand.near hand.announced rows → list ≡ l → room ≡ hand.room → HasRoomFor x front now list room
 room_so rt x front rows now l list hand room prepared is same fits cast =
     subst (λ r. length (sent_after x front r list cast) ≤ room) (sym is)
-    (subst (λ k. length (sent_after x front (rows_after rt front hand.near hand.told rows) k cast) ≤ room) (sym same)
-    (subst (λ m. length (sent_after x front (rows_after rt front hand.near hand.told rows) l cast) ≤ m) (sym fits) (room_for rt x front rows l hand prepared cast)))
+    (subst (λ k. length (sent_after x front (rows_after rt front hand.near hand.announced rows) k cast) ≤ room) (sym same)
+    (subst (λ m. length (sent_after x front (rows_after rt front hand.near hand.announced rows) l cast) ≤ m) (sym fits) (room_for rt x front rows l hand prepared cast)))
 
-pub rows_long : (rt : Table) (front : Front) (near told : List ℕ) (rows : List (List ℕ)) → length (rows_after rt front near told rows) ≡ length rows
-rows_long rt fronts.Empty near told rows = refl
-rows_long rt fronts.New near told rows = refl
-rows_long rt (fronts.Heard y s) near told rows = rows_count rt y s near told rows
+pub rows_long : (rt : Table) (front : Front) (near announced : List ℕ) (rows : List (List ℕ)) → length (rows_after rt front near announced rows) ≡ length rows
+rows_long rt fronts.Empty near announced rows = refl
+rows_long rt fronts.New near announced rows = refl
+rows_long rt (fronts.Heard y s) near announced rows = rows_count rt y s near announced rows
 
 -- ---- a turn that was done
 
@@ -103,7 +103,7 @@ step_at w x o is = ap (λ (p : Option Node). at_node p (turn_of w x)) is
 pub record Took (x : ℕ) (rt : Table) (front : Front) (hand : Hand) (n now : NodeLists) : Type 0 where
   pub prepared : IsPrepared x front (n.entries).items (front_list (n.queue).items) hand
   pub queue : (now.queue).items ≡ drop 1 (n.queue).items
-  pub rows : (now.entries).items ≡ rows_after rt front hand.near hand.told (n.entries).items
+  pub rows : (now.entries).items ≡ rows_after rt front hand.near hand.announced (n.entries).items
 
 -- and so the lists are those of the model
 pub record Turned (x : ℕ) (old new : WorldSeen) (d : Done) (packet : List ℕ) (nodes : List NodeLists) (casts : List lists.Cast) (front : Front) (n now : NodeLists) : Type 0 where
@@ -161,7 +161,7 @@ module _ (x : ℕ) (old new : WorldSeen) (d : Done) (packet : List ℕ) (nodes :
       let size = rows_at nodes old casts x n t at in
       let r : IsInHand x y (said_of m) (n.entries).items (front_list (n.queue).items) hand = took.prepared in
       (λ i. entries_after x y m (heard_is i) (table new.world x) (λ q. turned_row q (at i)))
-      ∙ (λ i q. (sym (turned_rows (table new.world x) x y m (n.entries).items (front_list (n.queue).items) hand.near hand.told q (omega arith) (subst (λ k. IsSaidIn k (said_of m)) (sym size) inside) r.near r.told)
+      ∙ (λ i q. (sym (turned_rows (table new.world x) x y m (n.entries).items (front_list (n.queue).items) hand.near hand.announced q (omega arith) (subst (λ k. IsSaidIn k (said_of m)) (sym size) inside) r.near r.announced)
       ∙ ap (λ rs. reverse (row rs q)) (sym took.rows)) i)
 
   turned_heard : (y : ℕ) (m : Message) → IsDone (Turn x) old d new packet → step old.world (Turn x) ≡ Next new.world (world_effect_in old.mesh x d packet)
@@ -180,7 +180,7 @@ module _ (x : ℕ) (old new : WorldSeen) (d : Done) (packet : List ℕ) (nodes :
         makes = record { next = made.0; starts = made.1; flying = λ i. ap (λ (k : KeptLists). k.flying i) all };
         go = record {
           count = length-set nodes x now;
-          rows = row_counts refl (ap length took.rows ∙ rows_count (table new.world x) y (said_of m) hand.near hand.told (n.entries).items);
+          rows = row_counts refl (ap length took.rows ∙ rows_count (table new.world x) y (said_of m) hand.near hand.announced (n.entries).items);
           entries = λ z q. ap (λ (k : KeptLists). k.entries z q) all ∙ ap (λ (f : ℕ → List ℕ). f q) (changed_so (λ o q. turned_row q o) nodes x now (heard_entries y m) z there same);
           queues = λ z. ap (λ (k : KeptLists). k.queues z) all ∙ queue_goes took.queue z;
         };

@@ -45,21 +45,21 @@ knows rt fronts.New = false
 knows rt (fronts.Heard y s) = is_known y (maps.get rt y)
 
 -- there is an entry; it has this number, one hop more than h, and next hop y
-abbrev pub tells : ℕ → ℕ → ℕ → Option Entry → Bool
-tells y n h None = false
-tells y n h (Some e) = (e.dsn == n) && ((e.hops == h + 1) && (e.next == y))
+abbrev pub announces : ℕ → ℕ → ℕ → Option Entry → Bool
+announces y n h None = false
+announces y n h (Some e) = (e.dsn == n) && ((e.hops == h + 1) && (e.next == y))
 
 -- what a node, whose table is now `rt`, has learnt from what the neighbour y said
 abbrev pub lesson_of : Table → ℕ → Said → Lesson
-lesson_of rt y says.Parcel = record { from = y; near = false; dest = y; told = false }
+lesson_of rt y says.Parcel = record { from = y; near = false; dest = y; announced = false }
 lesson_of rt y says.Error =
-    record { from = y; near = leads_to y (maps.get rt y); dest = y; told = false }
+    record { from = y; near = leads_to y (maps.get rt y); dest = y; announced = false }
 lesson_of rt y (says.Request origin n h dest) =
     record {
       from = y;
       near = leads_to y (maps.get rt y);
       dest = origin;
-      told = tells y n h
+      announced = announces y n h
           (maps.get rt origin);
     }
 lesson_of rt y (says.Reply dest n h) =
@@ -67,6 +67,6 @@ lesson_of rt y (says.Reply dest n h) =
       from = y;
       near = leads_to y (maps.get rt y);
       dest = dest;
-      told = tells y n h
+      announced = announces y n h
           (maps.get rt dest);
     }

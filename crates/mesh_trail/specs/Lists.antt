@@ -52,8 +52,8 @@ put_if changes d l rows = if changes then slice_set rows d l else rows
 -- the lists once a node has learnt that a neighbour is near, with its list of two nodes, or the
 -- route that was announced, with its longer list
 abbrev pub after_lesson : Lesson → List ℕ → List ℕ → List (List ℕ) → List (List ℕ)
-after_lesson l near told rows =
-    put_if (l.told && not (l.near && (l.from == l.dest))) l.dest told
+after_lesson l near announced rows =
+    put_if (l.announced && not (l.near && (l.from == l.dest))) l.dest announced
     (put_if l.near l.from near rows)
 
 -- the list of a reply of x to what was said, or of one that it passes on

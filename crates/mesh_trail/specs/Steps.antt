@@ -18,9 +18,10 @@ front_list queue = list_in (slice_get queue 0)
 
 -- the lists of a node's entries, once its table is `rt`
 abbrev pub rows_after : Table → Front → List ℕ → List ℕ → List (List ℕ) → List (List ℕ)
-rows_after rt fronts.Empty near told rows = rows
-rows_after rt fronts.New near told rows = rows
-rows_after rt (fronts.Heard y s) near told rows = after_lesson (lesson_of rt y s) near told rows
+rows_after rt fronts.Empty near announced rows = rows
+rows_after rt fronts.New near announced rows = rows
+rows_after rt (fronts.Heard y s) near announced rows =
+    after_lesson (lesson_of rt y s) near announced rows
 
 -- the list of what node x casts
 abbrev pub sent_after : ℕ → Front → List (List ℕ) → List ℕ → Said → List ℕ
@@ -39,7 +40,7 @@ FitsReply rows room (says.Reply dest n h) = length (row rows dest) ≤ room
 pub record IsInHand (x y : ℕ) (s : Said) (rows : List (List ℕ)) (l : List ℕ)
     (hand : Hand) : Type 0 where
   pub near : hand.near ≡ y ∷ x ∷ []
-  pub told : hand.told ≡ l ++ x ∷ []
+  pub announced : hand.announced ≡ l ++ x ∷ []
   pub two : 2 ≤ hand.room
   pub more : length l + 1 ≤ hand.room
   pub reply : FitsReply rows hand.room s

@@ -61,7 +61,7 @@ pub(crate) fn prepare_hand(
     };
     let list = first_in(lists);
     hand.near.write_two(from, x)?;
-    hand.told.write(list, x)?;
+    hand.announced.write(list, x)?;
     let reply = reply_len(lists.entries.as_slice(), said);
     hand.room
         .make(reply.max(list.len().saturating_add(1)).max(2))
@@ -83,7 +83,7 @@ pub(crate) fn take_front(
     ensures taken { hand.new.taken ≡ front_list lists.old.queue.items }
     ensures queue { lists.new.queue.items ≡ drop 1 lists.old.queue.items }
     ensures rows { let rt = table world.now.world x in let old = lists.old.entries.items in
-        lists.new.entries.items ≡ rows_after rt front hand.old.near hand.old.told old }
+        lists.new.entries.items ≡ rows_after rt front hand.old.near hand.old.announced old }
     ensures room { hand.new.room ≡ hand.old.room }
 {
     if let Front::Heard { from, said } = front {

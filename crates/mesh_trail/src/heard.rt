@@ -2,7 +2,7 @@
 ghost use Rattle.std.specs.Prelude.{◌≡◌, ◌<◌, Option, length, slice_get};
 ghost use Rattle.mesh_model.specs.Walks.{table};
 ghost use Rattle.mesh_trail.specs.Said.{IsSaidIn};
-ghost use Rattle.mesh_trail.specs.Heard.{front_of, IsFrontIn, leads_to, is_known, knows, tells, lesson_of};
+ghost use Rattle.mesh_trail.specs.Heard.{front_of, IsFrontIn, leads_to, is_known, knows, announces, lesson_of};
 
 use crate::said::{Said, read_said};
 use aodv_model::{Entry, Flag};
@@ -21,13 +21,13 @@ pub(crate) enum Front {
 }
 
 /// What a node has learnt from a message: if `near`, that it has the neighbour `from`, and if
-/// `told`, the route to `dest` that the message announced.
+/// `announced`, the route to `dest` that the message announced.
 #[derive(Clone, Copy)]
 pub(crate) struct Lesson {
     pub from: usize,
     pub near: bool,
     pub dest: usize,
-    pub told: bool,
+    pub announced: bool,
 }
 
 /// What waits at the front of the queue of node x.
@@ -81,8 +81,8 @@ pub(crate) fn knows(world: &World, x: usize, front: Front) -> bool
 
 // Whether the entry is the route that a neighbour announced, with this number and this many hops
 // from the neighbour.
-fn is_told(entry: Option<Entry>, from: usize, number: u32, hops: u8) -> bool
-    ensures { result ≡ tells from number hops entry }
+fn is_announced(entry: Option<Entry>, from: usize, number: u32, hops: u8) -> bool
+    ensures { result ≡ announces from number hops entry }
 {
     match entry {
         Some(e) => e.dsn == number && u64::from(e.hops) == u64::from(hops) + 1 && e.next == from,
@@ -107,13 +107,13 @@ pub(crate) fn lesson_at(world: &World, x: usize, from: usize, said: Said) -> Les
             from,
             near: false,
             dest: from,
-            told: false,
+            announced: false,
         },
         Said::Error => Lesson {
             from,
             near,
             dest: from,
-            told: false,
+            announced: false,
         },
         Said::Request {
             origin,
@@ -124,13 +124,13 @@ pub(crate) fn lesson_at(world: &World, x: usize, from: usize, said: Said) -> Les
             from,
             near,
             dest: origin,
-            told: is_told(node.entry(origin), from, number, hops),
+            announced: is_announced(node.entry(origin), from, number, hops),
         },
         Said::Reply { dest, number, hops } => Lesson {
             from,
             near,
             dest,
-            told: is_told(node.entry(dest), from, number, hops),
+            announced: is_announced(node.entry(dest), from, number, hops),
         },
     }
 }

@@ -23,7 +23,7 @@ pub(crate) struct NodeLists {
 #[derive(Drop)]
 pub(crate) struct Hand {
     pub near: Walk,
-    pub told: Walk,
+    pub announced: Walk,
     pub taken: Walk,
     pub room: Room,
     /// What waits at the front of the queue, if the node is to take a turn.
@@ -99,7 +99,7 @@ fn exchange_near(rows: &mut Vec<Walk>, lesson: Lesson, hand: &mut Hand)
     requires from { lesson.from < length rows.old.items }
     requires known { hand.old.known ≡ true → row rows.old.items lesson.from ≡ hand.old.near }
     ensures rows { rows.new.items ≡ put_if lesson.near lesson.from hand.old.near rows.old.items }
-    ensures told { hand.new.told ≡ hand.old.told }
+    ensures announced { hand.new.announced ≡ hand.old.announced }
     ensures room { hand.new.room ≡ hand.old.room }
 {
     if lesson.near && !hand.known {
@@ -115,12 +115,13 @@ pub(crate) fn learn(rows: &mut Vec<Walk>, lesson: Lesson, hand: &mut Hand)
     requires from { lesson.from < length rows.old.items }
     requires dest { lesson.dest < length rows.old.items }
     requires known { hand.old.known ≡ true → row rows.old.items lesson.from ≡ hand.old.near }
-    ensures rows { rows.new.items ≡ after_lesson lesson hand.old.near hand.old.told rows.old.items }
+    ensures rows { rows.new.items
+        ≡ after_lesson lesson hand.old.near hand.old.announced rows.old.items }
     ensures room { hand.new.room ≡ hand.old.room }
 {
     exchange_near(rows, lesson, hand);
     let taken = lesson.near && lesson.from == lesson.dest;
-    if lesson.told && !taken {
-        exchange(rows, lesson.dest, &mut hand.told);
+    if lesson.announced && !taken {
+        exchange(rows, lesson.dest, &mut hand.announced);
     }
 }

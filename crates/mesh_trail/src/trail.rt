@@ -70,7 +70,7 @@ impl Steps for Trail {
         let nodes = blank_lists(alloc, world.mesh().len())?;
         let hand = Hand {
             near: Walk::new(alloc),
-            told: Walk::new(alloc),
+            announced: Walk::new(alloc),
             taken: Walk::new(alloc),
             room: Room::new(alloc),
             front: Front::Empty,

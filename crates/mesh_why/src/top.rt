@@ -28,8 +28,8 @@ fn answer_from<I: Source, O: Sink>(
 ) -> Status
     requires start { running.old.at ≡ opening Base }
     requires say { running.old.say ≡ Last }
-    ensures told { IfSome (I.left input.old) (λ bytes. IsAnswered (asked.node.0, asked.dest.0) bytes
-        (I.left input.new) (O.held out.old) (O.held out.new) result) }
+    ensures known { IfSome (I.left input.old) (λ bytes. IsAnswered (asked.node.0, asked.dest.0)
+        bytes (I.left input.new) (O.held out.old) (O.held out.new) result) }
     ensures end { result ≡ Status.Done → IsAtEnd (I.left input.new) }
     ensures read { HasSourceCause (I.faults input.old) (I.faults input.new) result }
     ensures write { HasStatusCause Status.WriteFault (O.faults out.old) (O.faults out.new) result }
@@ -48,8 +48,8 @@ fn answer_from<I: Source, O: Sink>(
 
 // `answer_from` for a run of its own, from the start on.
 fn answer<I: Source, O: Sink>(alloc: Global, asked: Asked, input: &mut I, out: &mut O) -> Status
-    ensures told { IfSome (I.left input.old) (λ bytes. IsAnswered (asked.node.0, asked.dest.0) bytes
-        (I.left input.new) (O.held out.old) (O.held out.new) result) }
+    ensures known { IfSome (I.left input.old) (λ bytes. IsAnswered (asked.node.0, asked.dest.0)
+        bytes (I.left input.new) (O.held out.old) (O.held out.new) result) }
     ensures end { result ≡ Status.Done → IsAtEnd (I.left input.new) }
     ensures read { HasSourceCause (I.faults input.old) (I.faults input.new) result }
     ensures write { HasStatusCause Status.WriteFault (O.faults out.old) (O.faults out.new) result }

@@ -7,7 +7,7 @@ use Rattle.mesh_model.specs.InMesh.{IsEvent}
 use Rattle.mesh_model.proofs.AccountSteps.{step_balanced}
 use Rattle.mesh_meaning.specs.Events.{event_of}
 use Rattle.mesh_world.specs.Seen.{WorldSeen, IsSoundWorld}
-use Rattle.mesh_world.specs.Parts.{AreKept, IsToldTo, seen_in}
+use Rattle.mesh_world.specs.Parts.{AreKept, IsAnsweredTo, seen_in}
 use Rattle.mesh_world.specs.CountsOfEvents.{IsStepCounted}
 use Rattle.mesh_world.specs.Accounts.{held_data, IsAccounted, KeepsAccount}
 use Rattle.mesh_world.specs.declared.parts.Parts.{Parts}
@@ -29,7 +29,7 @@ counted_accounts e old new (Err errors.NoMemory) sound ok is = λ t. ap (λ w. h
 
 -- the same of the event that was given and of the world that is seen
 pub accounted_at : (e f : EventGiven) (w : WorldSeen) (old : Parts) (wanted : Bool) (result : Result EventCounts StepError) (left : Done) (new : Parts) (packet : List ℕ) → e ≡ f → seen_in old ≡ w → AreKept old
-    → IsEvent (length w.mesh) (event_of e) → IsToldTo (event_of f) old wanted result left new packet → KeepsAccount (event_of e) w result (seen_in new)
+    → IsEvent (length w.mesh) (event_of e) → IsAnsweredTo (event_of f) old wanted result left new packet → KeepsAccount (event_of e) w result (seen_in new)
 accounted_at e f w old wanted result left new packet same view kept ok is =
     counted_accounts (event_of e) w (seen_in new) result (subst IsSoundWorld view kept.sound) ok
     (counted_at e f w old wanted result left new packet same view is)

@@ -41,15 +41,15 @@ IsFor size (Ask d) = d < size
 
 -- what comes of an act, unless it would overfill the field `full`: the node reacts, and these items
 -- are left in its inbox; and what was taken from there
-pub record Deed : Type 0 where
+pub record NodeResult : Type 0 where
   pub full : Option Counter
   pub reaction : Reaction
   pub left : List items.Item
   pub took : Option Took
 
-abbrev pub turn_deed : Nodes → NodeIds → Core → List items.Item → Option Deed
-turn_deed mesh range core [] = None
-turn_deed mesh range core (front ∷ rest) =
+abbrev pub turn_node_result : Nodes → NodeIds → Core → List items.Item → Option NodeResult
+turn_node_result mesh range core [] = None
+turn_node_result mesh range core (front ∷ rest) =
     let item = item_in mesh front in
     Some (record {
       full = turn_full core range item;
@@ -59,30 +59,31 @@ turn_deed mesh range core (front ∷ rest) =
     })
 
 -- nothing is taken from the inbox
-abbrev pub sent_deed : NodeSeen → Bool → Option Counter → Reaction → Option Deed
-sent_deed n may full reaction =
+abbrev pub sent_node_result : NodeSeen → Bool → Option Counter → Reaction → Option NodeResult
+sent_node_result n may full reaction =
     if may
     then Some (record { full = full; reaction = reaction; left = n.items; took = None })
     else None
 
 -- what comes of an act of the node `n`, with the nodes of `range` in range; None if it isn't
 -- enabled
-abbrev pub deed_of : Nodes → NodeIds → NodeSeen → Act → Option Deed
-deed_of mesh range n Turn = turn_deed mesh range n.core n.items
-deed_of mesh range n (Send d) =
-    sent_deed n (may_send n.core d) (send_full n.core range d) (send n.core range d)
-deed_of mesh range n (Ask d) = sent_deed n (may_ask n.core d) (ask_full n.core) (ask n.core d)
+abbrev pub node_result_of : Nodes → NodeIds → NodeSeen → Act → Option NodeResult
+node_result_of mesh range n Turn = turn_node_result mesh range n.core n.items
+node_result_of mesh range n (Send d) =
+    sent_node_result n (may_send n.core d) (send_full n.core range d) (send n.core range d)
+node_result_of mesh range n (Ask d) =
+    sent_node_result n (may_ask n.core d) (ask_full n.core) (ask n.core d)
 
 -- ---- what the code did
 
 -- the node did it: `took` was taken, and this is its effect besides
-pub record IsDeed (mesh : Nodes) (range : NodeIds) (act : Act) (old : NodeSeen)
+pub record IsNodeResult (mesh : Nodes) (range : NodeIds) (act : Act) (old : NodeSeen)
     (took : Option Took) (effect : Effect) (new : NodeSeen) (out : List ℕ) : Type 0 where
-  pub deed : Deed
-  pub is : deed_of mesh range old act ≡ Some deed
-  pub made : IsMade mesh deed.full deed.reaction effect new.core out
-  pub left : new.items ≡ deed.left
-  pub taken : took ≡ deed.took
+  pub node_result : NodeResult
+  pub is : node_result_of mesh range old act ≡ Some node_result
+  pub made : IsMade mesh node_result.full node_result.reaction effect new.core out
+  pub left : new.items ≡ node_result.left
+  pub taken : took ≡ node_result.took
   pub size : new.size ≡ old.size
 
 -- an act of the node `old`: its answer, from which `took` tells what was taken, the node after it,
@@ -90,14 +91,14 @@ pub record IsDeed (mesh : Nodes) (range : NodeIds) (act : Act) (old : NodeSeen)
 abbrev pub IsActed : {T : Type 0} → (T → Option Took) → Nodes → NodeIds → Act → NodeSeen
     → Result (T × Effect) Unacted → NodeSeen → List ℕ → Type 0
 IsActed took mesh range act old (Ok p) new out =
-    IsDeed mesh range act old (took p.0) p.1 new out
+    IsNodeResult mesh range act old (took p.0) p.1 new out
 IsActed took mesh range act old (Err refused.Idle) new out =
-    (deed_of mesh range old act ≡ None) × (new ≡ old)
+    (node_result_of mesh range old act ≡ None) × (new ≡ old)
 IsActed took mesh range act old (Err (refused.Full field)) new out =
-    (deed : Deed) × (deed_of mesh range old act ≡ Some deed) × (deed.full ≡ Some field)
-    × (new ≡ old)
+    (node_result : NodeResult) × (node_result_of mesh range old act ≡ Some node_result)
+    × (node_result.full ≡ Some field) × (new ≡ old)
 IsActed took mesh range act old (Err refused.NoMemory) new out =
-    (is_some (deed_of mesh range old act) ≡ true) × (new ≡ old)
+    (is_some (node_result_of mesh range old act) ≡ true) × (new ≡ old)
 
 -- what is answered of an act
 abbrev pub done_of : Option Took → Effect → Air → Done

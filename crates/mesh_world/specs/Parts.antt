@@ -37,13 +37,13 @@ pub record IsDoneTo (e : Event) (old : Parts) (answer : Result Done StepError) (
 
 -- an event was done to the parts, or refused: its counts, or the refusal, are the result; and if
 -- the answer is wanted, it is what was left
-pub record IsToldTo (e : Event) (old : Parts) (wanted : Bool)
+pub record IsAnsweredTo (e : Event) (old : Parts) (wanted : Bool)
     (result : Result EventCounts StepError) (left : Done) (new : Parts) (packet : List ℕ)
     : Type 0 where
   pub answer : Result Done StepError
   pub done : IsDoneTo e old answer new packet
   pub event_counts : HasEventCounts answer result
-  pub told : wanted ≡ true → answer_with result left ≡ answer
+  pub leaves : wanted ≡ true → answer_with result left ≡ answer
 
 -- the copy of this id was delivered, and node `to` took it: between the two events the parts are in
 -- order, and no node before `to` may take a turn

@@ -6,7 +6,7 @@ ghost use Rattle.mesh_base.specs.Meshes.{Nodes};
 ghost use Rattle.mesh_base.specs.declared.events.Took.{Took as TookSeen};
 ghost use Rattle.aodv_node.specs.Turned.{IsReadableItem};
 ghost use Rattle.mesh_world.specs.Acts as acts;
-ghost use Rattle.mesh_world.specs.Acts.{Act, IsFor, IsActed, deed_of, done_of};
+ghost use Rattle.mesh_world.specs.Acts.{Act, IsFor, IsActed, node_result_of, done_of};
 
 use aodv_node::{AskError, Node, SendError, TurnDone, TurnError};
 use mesh_base::{Air, Counter, Done, Effect, Mesh, NodeSet, Packet, Took};
@@ -56,7 +56,7 @@ pub(crate) trait Acts: Copy {
     /// Whether the act is enabled. This is asked only after memory was short.
     fn is_enabled(self, node: &Node) -> bool
         ensures { (mesh : Nodes) (range : NodeIds) →
-            result ≡ is_some (deed_of mesh range node.now (act self)) };
+            result ≡ is_some (node_result_of mesh range node.now (act self)) };
 }
 
 /// The node takes the front of its inbox.
@@ -85,7 +85,7 @@ impl Acts for Turn {
             Err(TurnError::Idle) => Err(Unacted::Idle),
             Err(TurnError::Full(field)) => Err(Unacted::Full(field)),
             Err(TurnError::NoMemory) => Err(Unacted::NoMemory),
-            Err(TurnError::Unreadable { .. }) => unreachable!(),
+            Err(TurnError::Malformed { .. }) => unreachable!(),
             Err(TurnError::Stranger { .. }) => unreachable!(),
         }
     }

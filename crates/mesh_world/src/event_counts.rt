@@ -165,7 +165,7 @@ pub fn event_counts_of(done: &Done) -> EventCounts
 #[inline(always)]
 pub(crate) fn tell(wanted: bool, answer: &mut Done, done: Done) -> Result<EventCounts, StepError>
     ensures event_counts { HasEventCounts (Ok done) result }
-    ensures told { wanted ≡ true → answer_with result answer.new ≡ Ok done }
+    ensures left { wanted ≡ true → answer_with result answer.new ≡ Ok done }
     ensures ok { IsOk result }
 {
     let event_counts = event_counts_of(&done);
@@ -185,7 +185,7 @@ pub(crate) fn tell_answer(
         → IsStep e old given new packet → IsStepCounted e old result new }
     ensures account { (e : an_event) (old new : WorldSeen)
         → KeepsAccount e old given new → KeepsAccount e old result new }
-    ensures told { wanted ≡ true → answer_with result answer.new ≡ given }
+    ensures left { wanted ≡ true → answer_with result answer.new ≡ given }
 {
     match given {
         Ok(done) => tell(wanted, answer, done),

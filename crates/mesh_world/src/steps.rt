@@ -83,7 +83,7 @@ pub trait Steps: Drop {
         requires event { IsEvent (length (seen self.old).mesh) (event_of e.now) }
         requires few { (seen self.old).steps < most_steps }
         ensures counted { IsStepCounted (event_of e.now) (seen self.old) result (seen self.new) }
-        ensures told { let event = event_of e.now in wanted ≡ true → IsStep event
+        ensures left { let event = event_of e.now in wanted ≡ true → IsStep event
             (seen self.old) (answer_with result answer.new) (seen self.new) out.new.items }
         ensures account { KeepsAccount (event_of e.now) (seen self.old) result (seen self.new) }
         ensures sound { IsSoundWorld (seen self.new) }

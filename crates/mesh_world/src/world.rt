@@ -232,7 +232,7 @@ impl Steps for World {
         requires event { IsEvent (length self.old.mesh) (event_of e.now) }
         requires few { self.old.steps < most_steps }
         ensures counted { IsStepCounted (event_of e.now) self.old result self.new }
-        ensures told { wanted ≡ true → IsStep (event_of e.now)
+        ensures left { wanted ≡ true → IsStep (event_of e.now)
             self.old (answer_with result answer.new) self.new out.new.items }
         ensures account { KeepsAccount (event_of e.now) self.old result self.new }
         ensures memory { IsShortOf self.old.world (event_of e.now) result }

@@ -10,14 +10,14 @@ use Rattle.aodv_model.specs.Tables.{Table, Dests}
 use Rattle.aodv_handlers.specs.Parts.{named_dests}
 use Rattle.aodv_meaning.specs.Sent.{pairs_of}
 use Rattle.aodv_handlers.proofs.RouteErrors.{HasTold, dest_below, told_none, told_more, told_same, told_all, writable}
-use Rattle.aodv_handlers.proofs.errors.write_error.Goals.{then-is_told, else-is_told}
+use Rattle.aodv_handlers.proofs.errors.write_error.Goals.{then-is_named, else-is_named}
 use Rattle.aodv_handlers.proofs.errors.write_error.Goals as goal
 
 pub loop-k-init : goal.loop-k-init
 loop-k-init g c = told_none c.args.mesh.now c.args.variant (g.T.Table.entries c.args.table.now) c.args.dests.now c.new-pairs.result.items c.new-pairs.ensures
 
-pub is_told-requires : goal.is_told-requires
-is_told-requires g c =
+pub is_named-requires : goal.is_named-requires
+is_named-requires g c =
     let below = dest_below (length c.args.mesh.now) c.args.dests.now c.loop-k.k c.pair-d.result c.requires.below c.pair-d.ensures in
     omega (arith, below, c.requires.nodes)
 
@@ -33,16 +33,16 @@ pub loop-k-preserved : goal.loop-k-preserved
 loop-k-preserved g c =
     let mesh = c.args.mesh.now in
     let rt = g.T.Table.entries c.args.table.now in
-    elim c.if-is_told.branch [
-      | then-is_told w ↦
-          told_more mesh c.args.variant rt c.args.dests.now c.loop-k.k c.loop-k.pairs.items c.if-is_told.pairs.items c.pair-d.result (w.at.result, c.pair-d.result.1) c.loop-k.invariant c.pair-d.ensures
-          (sym c.is_told.ensures ∙ w.if-is_told.true)
+    elim c.if-is_named.branch [
+      | then-is_named w ↦
+          told_more mesh c.args.variant rt c.args.dests.now c.loop-k.k c.loop-k.pairs.items c.if-is_named.pairs.items c.pair-d.result (w.at.result, c.pair-d.result.1) c.loop-k.invariant c.pair-d.ensures
+          (sym c.is_named.ensures ∙ w.if-is_named.true)
           (λ i. (record { 0 = w.at.ensures i }, c.pair-d.result.1))
           (ap (λ ps. ps.items) w.pairs-is ∙ w.push.ensures.items)
-      | else-is_told w ↦
+      | else-is_named w ↦
           subst (λ ps. HasTold mesh c.args.variant rt c.args.dests.now (c.loop-k.k + 1) ps.items) (sym w.pairs-is)
           (told_same mesh c.args.variant rt c.args.dests.now c.loop-k.k c.loop-k.pairs.items c.pair-d.result c.loop-k.invariant c.pair-d.ensures
-          (sym c.is_told.ensures ∙ w.if-is_told.false))
+          (sym c.is_named.ensures ∙ w.if-is_named.false))
     ]
 
 ended : (mesh : Nodes) (v : Variant) (rt : Table) (dests : Dests) (k n : ℕ) (pairs slice : List (Addr × ℕ)) → HasTold mesh v rt dests k pairs → n ≡ length (maps.entries dests) → n ≤ k → slice ≡ pairs → slice ≡ pairs_of mesh (named_dests v rt dests)

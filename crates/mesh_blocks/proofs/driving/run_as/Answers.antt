@@ -8,9 +8,9 @@ use Rattle.mesh_run.proofs.Scripts.{where_done, no_words}
 use Rattle.mesh_blocks.proofs.Runs.{runs_so, run_completes}
 use Rattle.mesh_blocks.proofs.driving.run_as.Goals as goal
 
-pub returns-clause-told : goal.returns-clause-told
-returns-clause-told g c =
-    runs_so g.F.Form.below c.args.variant c.with-watched.result c.of_schedule.result _ _ _ _ c.run-answer.result c.of.result c.with-watched.ensures c.of_schedule.ensures c.of.ensures c.run-answer.ensures.told
+pub returns-clause-known : goal.returns-clause-known
+returns-clause-known g c =
+    runs_so g.F.Form.below c.args.variant c.with-watched.result c.of_schedule.result _ _ _ _ c.run-answer.result c.of.result c.with-watched.ensures c.of_schedule.ensures c.of.ensures c.run-answer.ensures.known
 
 pub returns-clause-end : goal.returns-clause-end
 returns-clause-end g c = λ done. where_done (IsAtEnd (g.I.Source.left c.run-answer.new.input)) c.run-answer.result (sym c.of.ensures ∙ done) c.run-answer.ensures.end
@@ -28,4 +28,4 @@ returns-clause-words g c = λ e. no_words c.run-answer.result (sym c.of.ensures 
 
 pub returns-clause-complete : goal.returns-clause-complete
 returns-clause-complete g c =
-    run_completes g.F.Form.below c.args.variant (g.I.Source.left c.args.input.now) _ _ _ c.of.result _ _ _ _ (returns-clause-told g c) (returns-clause-read g c).failed (returns-clause-write g c).failed
+    run_completes g.F.Form.below c.args.variant (g.I.Source.left c.args.input.now) _ _ _ c.of.result _ _ _ _ (returns-clause-known g c) (returns-clause-read g c).failed (returns-clause-write g c).failed

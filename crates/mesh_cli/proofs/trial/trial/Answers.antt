@@ -21,11 +21,11 @@ do_made-answer-requires-clause-short g c =
     let few = made_short c.args.plan.seed c.args.plan.nodes c.args.plan.steps c.requires.0 c.requires.1 c.requires.2 c.requires.3 in
     omega (arith, all, few)
 
-pub returns-clause-told : goal.returns-clause-told
-returns-clause-told g c =
+pub returns-clause-written : goal.returns-clause-written
+returns-clause-written g c =
     let held = g.O.Sink.held in
     told_whole c.with-at.result c.args.variant (still_to_come c.new-maker.result) (made_by c.args.plan) (held c.args.out.now) (held c.do_made-answer.new.out) c.of.result c.with-at.ensures c.new-maker.ensures.text
-    (told_as (text_on c.with-at.result (still_to_come c.new-maker.result)) (held c.args.out.now) (held c.do_made-answer.new.out) c.do_made-answer.result c.of.result c.of.ensures c.do_made-answer.ensures.told)
+    (told_as (text_on c.with-at.result (still_to_come c.new-maker.result)) (held c.args.out.now) (held c.do_made-answer.new.out) c.do_made-answer.result c.of.result c.of.ensures c.do_made-answer.ensures.written)
 
 pub returns-clause-write : goal.returns-clause-write
 returns-clause-write g c =

@@ -8,9 +8,9 @@ use Rattle.mesh_run.proofs.Scripts.{where_done, no_words}
 use Rattle.mesh_places.proofs.Runs.{runs_so}
 use Rattle.mesh_places.proofs.top.run.Goals as goal
 
-pub returns-clause-told : goal.returns-clause-told
-returns-clause-told g c =
-    runs_so c.args.reach c.with-placed.result c.of_schedule.result _ _ _ _ c.run-answer.result c.of.result c.with-placed.ensures.reach c.with-placed.ensures.opening c.of_schedule.ensures c.of.ensures c.run-answer.ensures.told
+pub returns-clause-known : goal.returns-clause-known
+returns-clause-known g c =
+    runs_so c.args.reach c.with-placed.result c.of_schedule.result _ _ _ _ c.run-answer.result c.of.result c.with-placed.ensures.reach c.with-placed.ensures.opening c.of_schedule.ensures c.of.ensures c.run-answer.ensures.known
 
 pub returns-clause-end : goal.returns-clause-end
 returns-clause-end g c = λ done. where_done (IsAtEnd (g.I.Source.left c.run-answer.new.input)) c.run-answer.result (sym c.of.ensures ∙ done) c.run-answer.ensures.end

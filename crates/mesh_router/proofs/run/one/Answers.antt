@@ -21,7 +21,7 @@ returns-in-Err-clause-stops g c =
     let m = c.args.at.now in
     let bytes = c.args.bytes.now in
     let e = read_line m c.peers.result.now c.started.result bytes (Err c.in-Err.fault) c.peers.ensures c.started.ensures c.in-Err.ensures.value in
-    λ pieces. told_refused m (Whole bytes) (Fault c.in-Err.fault) pieces _ _ _ c.refuse.result e (c.refuse.ensures.told _)
+    λ pieces. told_refused m (Whole bytes) (Fault c.in-Err.fault) pieces _ _ _ c.refuse.result e (c.refuse.ensures.written _)
 
 pub returns-in-Ok-do_line-clause-goes : goal.returns-in-Ok-do_line-clause-goes
 returns-in-Ok-do_line-clause-goes g c =

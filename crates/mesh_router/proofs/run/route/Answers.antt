@@ -14,6 +14,6 @@ run_lines-requires-clause-room g c =
     let most : (g.R.LineReader.limits c.args.lines.now).input ≡ LONGEST_INPUT = ap (λ (l : Limits). l.input) c.requires.most in
     record { open_at = c.requires.open; count = omega (arith, none, most); counts = opening_counts (most_grown * m.lines) m c.requires.opening }
 
-pub returns-clause-told : goal.returns-clause-told
-returns-clause-told g c =
+pub returns-clause-known : goal.returns-clause-known
+returns-clause-known g c =
     route_told g.O.Sink g.L.Link g.R.LineReader c.args.lines.now c.run_lines.new.lines c.args.routing.now c.run_lines.new.runner c.run_lines.result c.run_lines.ensures.ran c.requires.most c.requires.opening

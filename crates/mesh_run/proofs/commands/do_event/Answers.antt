@@ -22,7 +22,7 @@ use Rattle.mesh_run.proofs.commands.do_event.Goals.{in-Ok, in-Err-say_event}
 
 pub say_event-requires-clause-printable : goal.say_event-requires-clause-printable
 say_event-requires-clause-printable g c =
-    let told = c.step_counted.ensures.told c.if-not-say.false in
+    let told = c.step_counted.ensures.left c.if-not-say.false in
     let here = subst (λ r. OnOk r (IsAnswer c.at.inside.state (event_of c.args.event.now) c.step_counted.new.answer c.step_counted.new.self c.step_counted.new.out.items)) c.in_default.is told in
     let is = subst (λ (m : RunState). IsAnswer m (event_of c.args.event.now) c.step_counted.new.answer c.step_counted.new.self c.step_counted.new.out.items) c.at.view_is here in
     let same : c.mesh-mesh.result.now ≡ c.args.at.now.mesh = c.mesh-mesh.ensures.value ∙ answer_mesh c.args.at.now c.step_counted.new.self (event_of c.args.event.now) c.step_counted.new.answer c.step_counted.new.out.items is in
@@ -30,7 +30,7 @@ say_event-requires-clause-printable g c =
 
 pub say_event-requires-clause-in_mesh : goal.say_event-requires-clause-in_mesh
 say_event-requires-clause-in_mesh g c =
-    let told = c.step_counted.ensures.told c.if-not-say.false in
+    let told = c.step_counted.ensures.left c.if-not-say.false in
     let here = subst (λ r. OnOk r (IsAnswer c.at.inside.state (event_of c.args.event.now) c.step_counted.new.answer c.step_counted.new.self c.step_counted.new.out.items)) c.in_default.is told in
     let is = subst (λ (m : RunState). IsAnswer m (event_of c.args.event.now) c.step_counted.new.answer c.step_counted.new.self c.step_counted.new.out.items) c.at.view_is here in
     let same : c.mesh-mesh.result.now ≡ c.args.at.now.mesh = c.mesh-mesh.ensures.value ∙ answer_mesh c.args.at.now c.step_counted.new.self (event_of c.args.event.now) c.step_counted.new.answer c.step_counted.new.out.items is in
@@ -38,7 +38,7 @@ say_event-requires-clause-in_mesh g c =
 
 pub say_event-requires-clause-echo : goal.say_event-requires-clause-echo
 say_event-requires-clause-echo g c =
-    let told = c.step_counted.ensures.told c.if-not-say.false in
+    let told = c.step_counted.ensures.left c.if-not-say.false in
     let here = subst (λ r. OnOk r (IsAnswer c.at.inside.state (event_of c.args.event.now) c.step_counted.new.answer c.step_counted.new.self c.step_counted.new.out.items)) c.in_default.is told in
     let is = subst (λ (m : RunState). IsAnswer m (event_of c.args.event.now) c.step_counted.new.answer c.step_counted.new.self c.step_counted.new.out.items) c.at.view_is here in
     let same : c.mesh-mesh.result.now ≡ c.args.at.now.mesh = c.mesh-mesh.ensures.value ∙ answer_mesh c.args.at.now c.step_counted.new.self (event_of c.args.event.now) c.step_counted.new.answer c.step_counted.new.out.items is in
@@ -47,7 +47,7 @@ say_event-requires-clause-echo g c =
 pub returns-clause-comes : goal.returns-clause-comes
 returns-clause-comes g c =
     let e : Event = event_of c.args.event.now in
-    let told = c.step_counted.ensures.told c.if-not-say.false in
+    let told = c.step_counted.ensures.left c.if-not-say.false in
     let here = subst (λ r. OnOk r (IsAnswer c.at.inside.state e c.step_counted.new.answer c.step_counted.new.self c.step_counted.new.out.items)) c.in_default.is told in
     let is = subst (λ (m : RunState). IsAnswer m e c.step_counted.new.answer c.step_counted.new.self c.step_counted.new.out.items) c.at.view_is here in
     let same : c.mesh-mesh.result.now ≡ c.args.at.now.mesh = c.mesh-mesh.ensures.value ∙ answer_mesh c.args.at.now c.step_counted.new.self e c.step_counted.new.answer c.step_counted.new.out.items is in
@@ -78,7 +78,7 @@ returns-in-Err-clause-comes g c =
 
 pub returns-clause-way : goal.returns-clause-way
 returns-clause-way g c =
-    let told = c.step_counted.ensures.told c.if-not-say.false in
+    let told = c.step_counted.ensures.left c.if-not-say.false in
     let here = subst (λ r. OnOk r (IsAnswer c.at.inside.state (event_of c.args.event.now) c.step_counted.new.answer c.step_counted.new.self c.step_counted.new.out.items)) c.in_default.is told in
     let is = subst (λ (m : RunState). IsAnswer m (event_of c.args.event.now) c.step_counted.new.answer c.step_counted.new.self c.step_counted.new.out.items) c.at.view_is here in
     on_err c.match-say_event.result (reached_one c.args.at.now c.step_counted.new.self (event_of c.args.event.now) [] is.run_state)

@@ -13,11 +13,11 @@ use Rattle.mesh_run.proofs.Loud.{source_cause, sink_cause}
 use Rattle.mesh_run.proofs.Scripts.{input_told, after_as, where_done, no_words}
 use Rattle.mesh_run.proofs.driving.do_input.Goals as goal
 
-pub returns-clause-told : goal.returns-clause-told
-returns-clause-told g c =
+pub returns-clause-known : goal.returns-clause-known
+returns-clause-known g c =
     let r = c.args.running.now in
     subst (λ (s : Status). IfSome (g.I.Source.left c.args.input.now) (λ bytes. IsOutputFrom r.say r.at bytes (g.I.Source.left c.run-answer.new.input) (g.O.Sink.held c.args.out.now) (g.O.Sink.held c.run-answer.new.out) s)) (sym c.of.ensures)
-    (input_told r (g.I.Source.left c.args.input.now) (g.I.Source.left c.run-answer.new.input) (g.O.Sink.held c.args.out.now) (g.O.Sink.held c.run-answer.new.out) c.run-answer.result (rw c.of_schedule-most.ensures at c.run-answer.ensures.told))
+    (input_told r (g.I.Source.left c.args.input.now) (g.I.Source.left c.run-answer.new.input) (g.O.Sink.held c.args.out.now) (g.O.Sink.held c.run-answer.new.out) c.run-answer.result (rw c.of_schedule-most.ensures at c.run-answer.ensures.known))
 
 pub returns-clause-after : goal.returns-clause-after
 returns-clause-after g c = λ done.

@@ -42,7 +42,7 @@ lines-preserved g c =
     let few = c.lines.invariant.few in
     let come = handed_on r l first c.lines.lines old c.lines.runner c.hand_on.new.runner g.met.R.Runner.joins c.lines.invariant.come c.in_default.ensures.goes in
     let found = c.in-Ok-true.is ∙ ap Ok c.in-Ok-true.field-0-test in
-    let told = told_as l (l.limits first) c.lines.lines c.advance.new.self c.advance.result (Ok true) c.lines.invariant.most (c.in-Ok-true.is ∙ ap Ok c.in-Ok-true.field-0-test) c.advance.ensures.told in
+    let told = told_as l (l.limits first) c.lines.lines c.advance.new.self c.advance.result (Ok true) c.lines.invariant.most (c.in-Ok-true.is ∙ ap Ok c.in-Ok-true.field-0-test) c.advance.ensures.known in
     let fits : l.given c.advance.new.self ≤ (l.limits first).input = subst (λ (m : Limits). l.given c.advance.new.self ≤ m.input) (c.advance.ensures.most ∙ c.lines.invariant.most) c.advance.ensures.few in
     let short : length (l.found c.advance.new.self) ≤ (l.limits first).line = subst (λ (m : Limits). length (l.found c.advance.new.self) ≤ m.line) c.lines.invariant.most (c.advance.ensures.short found) in
     let led = subst (λ line. r.leads c.hand_on.new.runner (Whole line ∷ []) c.line-in-Ok-true.new.self) c.line.ensures c.in-None.ensures.goes in
@@ -62,7 +62,7 @@ returns-in-Some-line-clause-ran g c =
     let old = c.args.runner.now in
     let few = c.lines.invariant.few in
     let come = handed_on r l first c.lines.lines old c.lines.runner c.hand_on.new.runner g.met.R.Runner.joins c.lines.invariant.come c.in_default.ensures.goes in
-    let told = told_as l (l.limits first) c.lines.lines c.advance.new.self c.advance.result (Ok true) c.lines.invariant.most (c.in-Ok-true.is ∙ ap Ok c.in-Ok-true.field-0-test) c.advance.ensures.told in
+    let told = told_as l (l.limits first) c.lines.lines c.advance.new.self c.advance.result (Ok true) c.lines.invariant.most (c.in-Ok-true.is ∙ ap Ok c.in-Ok-true.field-0-test) c.advance.ensures.known in
     let stopped = subst (λ line. r.stops c.hand_on.new.runner (Whole line) c.line-in-Ok-true.new.self c.in-Some-line.answer) c.line.ensures c.in-Some-line.ensures.stops in
     ran_to_line r l first c.lines.lines c.advance.new.self old c.hand_on.new.runner c.line-in-Ok-true.new.self c.in-Some-line.answer few come told (c.in-Ok-true.ensures.cause.none (λ e. cc) ∙ c.lines.invariant.reads) stopped
 
@@ -74,7 +74,7 @@ returns-in-Ok-false-clause-ran g c =
     let old = c.args.runner.now in
     let few = c.lines.invariant.few in
     let come = handed_on r l first c.lines.lines old c.lines.runner c.hand_on.new.runner g.met.R.Runner.joins c.lines.invariant.come c.in_default.ensures.goes in
-    let told = told_as l (l.limits first) c.lines.lines c.advance.new.self c.advance.result (Ok false) c.lines.invariant.most (c.in-Ok-false.is ∙ ap Ok c.in-Ok-false.field-0-test) c.advance.ensures.told in
+    let told = told_as l (l.limits first) c.lines.lines c.advance.new.self c.advance.result (Ok false) c.lines.invariant.most (c.in-Ok-false.is ∙ ap Ok c.in-Ok-false.field-0-test) c.advance.ensures.known in
     ran_to_end r l first c.lines.lines c.advance.new.self old c.hand_on.new.runner c.end.new.self c.end.result few come told (c.advance.ensures.end (c.in-Ok-false.is ∙ ap Ok c.in-Ok-false.field-0-test)) (c.in-Ok-false.ensures.cause.none (λ e. cc) ∙ c.lines.invariant.reads) c.end.ensures
 
 pub returns-in-Err-ReadFault-clause-ran : goal.returns-in-Err-ReadFault-clause-ran
@@ -86,7 +86,7 @@ returns-in-Err-ReadFault-clause-ran g c =
     let few = c.lines.invariant.few in
     let come = handed_on r l first c.lines.lines old c.lines.runner c.hand_on.new.runner g.met.R.Runner.joins c.lines.invariant.come c.in_default.ensures.goes in
     let failed = c.in-Err-ReadFault.is ∙ ap Err c.in-Err-ReadFault.field-0-is in
-    let told = told_as l (l.limits first) c.lines.lines c.advance.new.self c.advance.result (Err error.ReadFault) c.lines.invariant.most (c.in-Err-ReadFault.is ∙ ap Err c.in-Err-ReadFault.field-0-is) c.advance.ensures.told in
+    let told = told_as l (l.limits first) c.lines.lines c.advance.new.self c.advance.result (Err error.ReadFault) c.lines.invariant.most (c.in-Err-ReadFault.is ∙ ap Err c.in-Err-ReadFault.field-0-is) c.advance.ensures.known in
     let later : l.faults first ≤ l.faults c.advance.new.self = omega (arith, c.lines.invariant.reads, c.advance.ensures.cause.later) in
     ran_to_fault r l first c.lines.lines c.advance.new.self old c.hand_on.new.runner c.cut.new.self c.cut.result few come told (c.advance.ensures.pending failed)
     (λ ended. c.advance.ensures.unasked (decides_ended (l.limits c.lines.lines) (l.given c.lines.lines) (l.ended c.lines.lines) (l.pending c.lines.lines) ended) failed) later
@@ -110,7 +110,7 @@ returns-in-Err-TooLong-clause-ran g c =
     let old = c.args.runner.now in
     let few = c.lines.invariant.few in
     let come = handed_on r l first c.lines.lines old c.lines.runner c.hand_on.new.runner g.met.R.Runner.joins c.lines.invariant.come c.in_default.ensures.goes in
-    let told = told_as l (l.limits first) c.lines.lines c.advance.new.self c.advance.result (Err error.TooLong) c.lines.invariant.most (c.in-Err-TooLong.is ∙ ap Err c.in-Err-TooLong.field-0-is) c.advance.ensures.told in
+    let told = told_as l (l.limits first) c.lines.lines c.advance.new.self c.advance.result (Err error.TooLong) c.lines.invariant.most (c.in-Err-TooLong.is ∙ ap Err c.in-Err-TooLong.field-0-is) c.advance.ensures.known in
     ran_to_long r l first c.lines.lines c.advance.new.self old c.hand_on.new.runner c.past.new.self c.past.result few come told (c.advance.ensures.cause.none (λ e. cc) ∙ c.lines.invariant.reads) c.past.ensures
 
 pub past-requires-in-Err-TooMuch : goal.past-requires-in-Err-TooMuch
@@ -131,5 +131,5 @@ returns-in-Err-TooMuch-clause-ran g c =
     let old = c.args.runner.now in
     let few = c.lines.invariant.few in
     let come = handed_on r l first c.lines.lines old c.lines.runner c.hand_on.new.runner g.met.R.Runner.joins c.lines.invariant.come c.in_default.ensures.goes in
-    let told = told_as l (l.limits first) c.lines.lines c.advance.new.self c.advance.result (Err error.TooMuch) c.lines.invariant.most (c.in-Err-TooMuch.is ∙ ap Err c.in-Err-TooMuch.field-0-is) c.advance.ensures.told in
+    let told = told_as l (l.limits first) c.lines.lines c.advance.new.self c.advance.result (Err error.TooMuch) c.lines.invariant.most (c.in-Err-TooMuch.is ∙ ap Err c.in-Err-TooMuch.field-0-is) c.advance.ensures.known in
     ran_to_beyond r l first c.lines.lines c.advance.new.self old c.hand_on.new.runner c.past-in-Err-TooMuch.new.self c.past-in-Err-TooMuch.result few come told (c.advance.ensures.cause.none (λ e. cc) ∙ c.lines.invariant.reads) c.past-in-Err-TooMuch.ensures

@@ -18,13 +18,13 @@ returns-then-not-is_known c = (
   ]),
 )
 
-pub write_again-requires-clause-says : goal.write_again-requires-clause-says
-write_again-requires-clause-says c = (c.args.mesh.now, says c.args.mesh.now c.args.bytes.now c.in-Ok.message c.in-Ok.ensures.exact (c.is_known.ensures.0 c.if-not-is_known.false))
+pub rewrite-requires-clause-says : goal.rewrite-requires-clause-says
+rewrite-requires-clause-says c = (c.args.mesh.now, says c.args.mesh.now c.args.bytes.now c.in-Ok.message c.in-Ok.ensures.exact (c.is_known.ensures.0 c.if-not-is_known.false))
 
 pub returns : goal.returns
 returns c =
     let same = bytes_eq-Decides c.as_slice.result.now c.args.bytes.now in (
-      λ t. is_as_written c.args.mesh.now c.args.bytes.now c.write_again.new.out.items c.in-Ok.message c.len-nodes.ensures.is_mesh c.requires.some c.in-Ok.ensures.exact (c.is_known.ensures.0 c.if-not-is_known.false)
-          (c.is_writable.ensures.0 c.if-not-is_writable.false) c.write_again.ensures (sym c.as_slice.ensures.value ∙ same.0 (sym c.eq.ensures ∙ t)),
-      λ w. c.eq.ensures ∙ same.1 (c.as_slice.ensures.value ∙ same_in c.args.mesh.now c.args.bytes.now c.write_again.new.out.items c.in-Ok.message c.len-nodes.ensures.is_mesh c.requires.some c.in-Ok.ensures.exact c.write_again.ensures w),
+      λ t. is_as_written c.args.mesh.now c.args.bytes.now c.rewrite.new.out.items c.in-Ok.message c.len-nodes.ensures.is_mesh c.requires.some c.in-Ok.ensures.exact (c.is_known.ensures.0 c.if-not-is_known.false)
+          (c.is_writable.ensures.0 c.if-not-is_writable.false) c.rewrite.ensures (sym c.as_slice.ensures.value ∙ same.0 (sym c.eq.ensures ∙ t)),
+      λ w. c.eq.ensures ∙ same.1 (c.as_slice.ensures.value ∙ same_in c.args.mesh.now c.args.bytes.now c.rewrite.new.out.items c.in-Ok.message c.len-nodes.ensures.is_mesh c.requires.some c.in-Ok.ensures.exact c.rewrite.ensures w),
     )

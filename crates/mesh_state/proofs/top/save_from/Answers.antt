@@ -9,8 +9,8 @@ put_state-requires g c =
     let done : c.do_input.result ≡ status.Done = search rules in
     small_end c.args.running.now.at c.do_input.new.running.at c.requires.start (c.do_input.ensures.grown done) (c.do_input.ensures.lines done) (c.do_input.ensures.steps done)
 
-pub returns-in-Done-clause-told : goal.returns-in-Done-clause-told
-returns-in-Done-clause-told g c =
+pub returns-in-Done-clause-known : goal.returns-in-Done-clause-known
+returns-in-Done-clause-known g c =
     let done : c.do_input.result ≡ status.Done = search rules in
-    saved_told c.args.running.now.say c.args.running.now.at c.do_input.new.running.at _ _ _ _ _ c.do_input.result c.put_state.result c.requires.say c.requires.start done c.do_input.ensures.told (c.do_input.ensures.after done)
+    saved_told c.args.running.now.say c.args.running.now.at c.do_input.new.running.at _ _ _ _ _ c.do_input.result c.put_state.result c.requires.say c.requires.start done c.do_input.ensures.known (c.do_input.ensures.after done)
     c.put_state.ensures.saved c.put_state.ensures.cut c.put_state.ensures.too_big c.put_state.ensures.one

@@ -52,8 +52,8 @@ returns-then-is_err-clause-pending g c =
     let same : pending_in c.read.new.self ≡ pending_in now = search rules in
     subst HasNoLf (sym same) none
 
-pub returns-in-End-clause-told : goal.returns-in-End-clause-told
-returns-in-End-clause-told g c =
+pub returns-in-End-clause-known : goal.returns-in-End-clause-known
+returns-in-End-clause-known g c =
     let old = c.args.self.now in
     let now = c.reads.self in
     let kept = c.reads.invariant in
@@ -66,8 +66,8 @@ returns-in-End-clause-stays g c =
     let now = c.reads.self in
     stays_none old now (λ r. ◌≡◌ {A = Result Bool LineError} (Ok false) (Err r) × (now ≡ old)) c.reads.invariant.unread (ap refusal_by c.in-End.is)
 
-pub returns-in-Line-clause-told : goal.returns-in-Line-clause-told
-returns-in-Line-clause-told g c =
+pub returns-in-Line-clause-known : goal.returns-in-Line-clause-known
+returns-in-Line-clause-known g c =
     let old = c.args.self.now in
     let now = c.reads.self in
     let kept = c.reads.invariant in
@@ -84,8 +84,8 @@ returns-in-Line-clause-stays g c =
     let old = c.args.self.now in
     stays_none old c.reads.self (λ r. ◌≡◌ {A = Result Bool LineError} (Ok true) (Err r) × (c.give.new.self ≡ old)) c.reads.invariant.unread (ap refusal_by c.in-Line.is)
 
-pub returns-in-TooLong-clause-told : goal.returns-in-TooLong-clause-told
-returns-in-TooLong-clause-told g c =
+pub returns-in-TooLong-clause-known : goal.returns-in-TooLong-clause-known
+returns-in-TooLong-clause-known g c =
     let old = c.args.self.now in
     let now = c.reads.self in
     let kept = c.reads.invariant in
@@ -96,8 +96,8 @@ pub returns-in-TooLong-clause-stays : goal.returns-in-TooLong-clause-stays
 returns-in-TooLong-clause-stays g c =
     stays_same c.args.self.now c.reads.self error.TooLong c.reads.invariant.unread (ap refusal_by c.in-TooLong.is)
 
-pub returns-in-TooMuch-clause-told : goal.returns-in-TooMuch-clause-told
-returns-in-TooMuch-clause-told g c =
+pub returns-in-TooMuch-clause-known : goal.returns-in-TooMuch-clause-known
+returns-in-TooMuch-clause-known g c =
     let old = c.args.self.now in
     let now = c.reads.self in
     let kept = c.reads.invariant in

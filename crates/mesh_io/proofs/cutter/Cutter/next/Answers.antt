@@ -12,7 +12,7 @@ returns-in-Err g c =
         record {
           same = c.advance.ensures.same;
           limits = c.advance.ensures.most;
-          told = told_refused _ _ _ _ _ _ _ s.told;
+          known = told_refused _ _ _ _ _ _ _ s.known;
           unread = c.advance.ensures.unread;
           stays = s.stays;
           kept = s.kept;

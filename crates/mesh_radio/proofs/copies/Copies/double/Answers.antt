@@ -13,8 +13,8 @@ use Rattle.mesh_radio.proofs.Entries.{find-all, found-copy, copies-few, value-at
 use Rattle.mesh_radio.proofs.Changes.{size-one, copies-one}
 use Rattle.mesh_radio.proofs.copies.Copies.double.Goals as goal
 
-pub returns-in_err-spot-clause-told : goal.returns-in_err-spot-clause-told
-returns-in_err-spot-clause-told c =
+pub returns-in_err-spot-clause-given : goal.returns-in_err-spot-clause-given
+returns-in_err-spot-clause-given c =
     let inside = c.self.inside in
     c.from_residual.ensures
     ∙ ap (option_map (λ (f : Flying). (inside.next, f.to))) (sym (find-all 1 inside.next c.args.id inside.casts.entries (c.self.invariant.0).casts.rising ∙ c.in_err-spot.ensures.none))
@@ -101,8 +101,8 @@ invariant_of-self c =
       launched.ensures.least,
     )
 
-pub returns-clause-told : goal.returns-clause-told
-returns-clause-told c =
+pub returns-clause-given : goal.returns-clause-given
+returns-clause-given c =
     let inside = c.self.inside in
     let spot = c.in_ok-spot.spot in
     let e : Entry = (c.in_ok-cast.field-0-0.now, c.in_ok-cast.cast.now) in

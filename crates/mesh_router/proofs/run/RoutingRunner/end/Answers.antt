@@ -20,5 +20,5 @@ returns g c =
         words = c.finish.ensures.words;
         read = c.finish.ensures.read;
       };
-      told = told_end old.at.now x (g.O.Sink.held old.out.now, sent) (g.O.Sink.held c.finish.new.out, sent) c.finish.result (c.finish.ensures.told sent);
+      told = told_end old.at.now x (g.O.Sink.held old.out.now, sent) (g.O.Sink.held c.finish.new.out, sent) c.finish.result (c.finish.ensures.written sent);
     }

@@ -13,7 +13,7 @@ returns g c =
     let sent = g.L.Link.sent old.link.now in
     let a : Outputs = (g.O.Sink.held old.out.now, sent) in
     let b : Outputs = (g.O.Sink.held c.refuse.new.out, sent) in
-    let told = subst (λ (why : BadWhy). IsOutput a b (refused_run old.at.now why) c.refuse.result) c.why_past.ensures (c.refuse.ensures.told sent) in record {
+    let told = subst (λ (why : BadWhy). IsOutput a b (refused_run old.at.now why) c.refuse.result) c.why_past.ensures (c.refuse.ensures.written sent) in record {
       answered = record {
         kept = record {
           same_out = refl {a = old.out.ghost_name};

@@ -20,4 +20,4 @@ returns-clause-comes g c =
     let r = c.args.self.now in
     let k = outcome_of_piece r.at (Whole c.args.line.now) in
     subst (λ (n : RunState). IsLineRun (outcome_as (moved r) (said (says_lines r.say) (outcome_in_run r.at k))) (moved r n) (g.O.Sink.held c.args.out.now) (g.O.Sink.held c.settle.new.out) c.settle.result) (sym c.settle.ensures.same)
-    (line_told (says_lines r.say) (moved r) r.at c.one-did.new.at k _ _ _ c.one-did.result c.settle.result (rw c.says_lines.ensures at c.one-did.ensures.comes) c.settle.ensures.told)
+    (line_told (says_lines r.say) (moved r) r.at c.one-did.new.at k _ _ _ c.one-did.result c.settle.result (rw c.says_lines.ensures at c.one-did.ensures.comes) c.settle.ensures.written)

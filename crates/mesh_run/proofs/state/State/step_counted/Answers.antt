@@ -47,15 +47,15 @@ returns-in-Ok-clause-done g c =
           is.done refl c.step_counted.ensures.sound c.count.ensures.counts (sum_by e old new is.answer is.packet _ s t is.done is.counted c.count.ensures.counted)).answer;
     }
 
-pub returns-in-Ok-clause-told : goal.returns-in-Ok-clause-told
-returns-in-Ok-clause-told g c = λ wanted.
+pub returns-in-Ok-clause-left : goal.returns-in-Ok-clause-left
+returns-in-Ok-clause-left g c = λ wanted.
     let e = event_of c.args.e.now in
     let old = g.S.Steps.seen c.in-Some.world in
     let new = g.S.Steps.seen c.step_counted.new.self in
     let s = sums_of c.self.inside.sums in
     let t = sums_of c.count.new.sums in
     let is = subst (λ r. IsStepCounted e old r new) c.in-Ok.is c.step_counted.ensures.counted in
-    let step = subst (λ r. IsStep e old (answer_with r c.step_counted.new.answer) new c.step_counted.new.out.items) c.in-Ok.is (c.step_counted.ensures.told wanted) in
+    let step = subst (λ r. IsStep e old (answer_with r c.step_counted.new.answer) new c.step_counted.new.out.items) c.in-Ok.is (c.step_counted.ensures.left wanted) in
     (answered_at c.args.self.now c.self.inside.variant c.self.inside.mesh (option_map g.S.Steps.seen c.self.inside.world) old new s t c.self.inside.lines e
     (Ok c.step_counted.new.answer) c.step_counted.new.answer c.step_counted.new.out.items c.self.view_is (ap (option_map g.S.Steps.seen) c.in-Some.is) c.self.invariant c.requires.event
     step refl c.step_counted.ensures.sound c.count.ensures.counts (sum_by e old new is.answer is.packet _ s t is.done is.counted c.count.ensures.counted)).answer

@@ -11,8 +11,8 @@ use Rattle.mesh_shell.proofs.Steps.{text_on-pieces}
 use Rattle.mesh_shell.proofs.Told.{head_broken, run_told, run_after, run_leads}
 use Rattle.mesh_shell.proofs.scripted.Scripted.run.Goals as goal
 
-pub returns-in-Err-clause-told : goal.returns-in-Err-clause-told
-returns-in-Err-clause-told g c =
+pub returns-in-Err-clause-known : goal.returns-in-Err-clause-known
+returns-in-Err-clause-known g c =
     let fold = g.S.Script.fold in
     let most = g.R.LineReader.limits c.args.lines.now in
     let m = c.args.self.now.script.now in
@@ -22,8 +22,8 @@ returns-in-Err-clause-told g c =
     head_broken (text_on fold most m) (λ bytes. text_from fold m (pieces_within most bytes)) (fold.head m) (g.R.LineReader.left c.args.lines.now) (g.R.LineReader.left c.args.lines.now) (held c.args.self.now.out.now) (held c.begin.new.out) c.in-Err.fault
     (text_on-pieces fold most m) (λ e. c.begin.ensures.read (subst (λ r. IsErrOf r ReadFault) (sym c.in-Err.is) (err_as c.in-Err.fault ReadFault e))) front
 
-pub returns-clause-told : goal.returns-clause-told
-returns-clause-told g c =
+pub returns-clause-known : goal.returns-clause-known
+returns-clause-known g c =
     let m = c.args.self.now.script.now in
     let held = held_by g.O.Sink.held in
     let wrote : IsHeadWritten (g.S.Script.fold.head m) m c.begin.new.self (held c.args.self.now.out.now) (held c.begin.new.out) =

@@ -1,15 +1,15 @@
-use Rattle.mesh_world.proofs.Acts.{taken_deed, full_deed, no_refusal, no_stranger}
+use Rattle.mesh_world.proofs.Acts.{taken_node_result, full_node_result, no_refusal, no_stranger}
 use Rattle.mesh_world.proofs.act.TurnActs.of.Goals as goal
 
 pub returns-in-Ok : goal.returns-in-Ok
-returns-in-Ok c = taken_deed _ _ _ _ _ _ (rw c.in-Ok.field-0-is at c.in-Ok.ensures.turn)
+returns-in-Ok c = taken_node_result _ _ _ _ _ _ (rw c.in-Ok.field-0-is at c.in-Ok.ensures.turn)
 
 pub returns-in-Err-Full : goal.returns-in-Err-Full
-returns-in-Err-Full c = full_deed _ _ _ _ _ (rw c.in-Err-Full.field-0-is at c.in-Err-Full.ensures.turn)
+returns-in-Err-Full c = full_node_result _ _ _ _ _ (rw c.in-Err-Full.field-0-is at c.in-Err-Full.ensures.turn)
 
 pub unreachable-requires : goal.unreachable-requires
 unreachable-requires c =
-    no_refusal c.args.mesh.now c.args.node.now c.turn.new.self c.in-Err-Unreadable.field-0-0 c.in-Err-Unreadable.field-0-1 c.requires.readable (rw c.in-Err-Unreadable.field-0-is at c.in-Err-Unreadable.ensures.turn)
+    no_refusal c.args.mesh.now c.args.node.now c.turn.new.self c.in-Err-Malformed.field-0-0 c.in-Err-Malformed.field-0-1 c.requires.readable (rw c.in-Err-Malformed.field-0-is at c.in-Err-Malformed.ensures.turn)
 
 pub unreachable-requires-in-Err-Stranger : goal.unreachable-requires-in-Err-Stranger
 unreachable-requires-in-Err-Stranger c =

@@ -16,14 +16,14 @@ use Rattle.mesh_radio.specs.Copies.{find_copy, held_seen}
 use Rattle.mesh_world.proofs.Memory.{needs_deliver, found_is_some}
 use Rattle.mesh_world.proofs.CountsOfEvents.{told_done, told_short, told_still}
 use Rattle.mesh_world.proofs.parts.Parts.deliver_copy.Goals as goal
-use Rattle.mesh_world.proofs.parts.Parts.deliver_copy.Goals.{in-Some-again, in-None+in_ok-bytes-in-None}
+use Rattle.mesh_world.proofs.parts.Parts.deliver_copy.Goals.{in-Some-clone_inline, in-None+in_ok-bytes-in-None}
 
 pub returns-in_default-clause-done : goal.returns-in_default-clause-done
 returns-in_default-clause-done c = λ packet.
     let old = c.args.self.now in
     told_done _ _ _ _ _ _ _ _ (
     of_ends _ old _ _ _ _ _ _ (deliver_idle old.mesh old.nodes.items old.radio old.ready old.steps c.args.id c.held.result packet c.requires.kept c.requires.few c.held.ensures c.in_default.is)
-    ) c.tell.ensures.event_counts c.tell.ensures.told
+    ) c.tell.ensures.event_counts c.tell.ensures.left
 
 pub index_mut-requires : goal.index_mut-requires
 index_mut-requires c =
@@ -34,8 +34,8 @@ index_mut-requires c =
 pub index_mut-requires-2 : goal.index_mut-requires-2
 index_mut-requires-2 c =
     let old = c.args.self.now in
-    let here : c.match-again.self ≡ changed old c.in-Some.held.to c.make_room.new.self old.radio = elim c.match-again.branch [
-      | in-Some-again w ↦ w.self-is
+    let here : c.match-clone_inline.self ≡ changed old c.in-Some.held.to c.make_room.new.self old.radio = elim c.match-clone_inline.branch [
+      | in-Some-clone_inline w ↦ w.self-is
       | in-None+in_ok-bytes-in-None w ↦ w.self-is
     ] in
     subst (λ (p : Parts). c.in-Some.held.to < vec_len p.nodes) (sym here)
@@ -45,8 +45,8 @@ index_mut-requires-2 c =
 pub hear-requires-clause-room : goal.hear-requires-clause-room
 hear-requires-clause-room c =
     let old = c.args.self.now in
-    let here : c.match-again.self ≡ changed old c.in-Some.held.to c.make_room.new.self old.radio = elim c.match-again.branch [
-      | in-Some-again w ↦ w.self-is
+    let here : c.match-clone_inline.self ≡ changed old c.in-Some.held.to c.make_room.new.self old.radio = elim c.match-clone_inline.branch [
+      | in-Some-clone_inline w ↦ w.self-is
       | in-None+in_ok-bytes-in-None w ↦ w.self-is
     ] in
     let room = ap (λ n. n.room) (read_back old.nodes.items c.in-Some.held.to c.make_room.new.self c.index_mut-2.result.now (is_there old.mesh old.nodes.items old.radio old.ready old.steps c.in-Some.held.to c.requires.kept (receiver_in old.mesh old.nodes.items old.radio old.ready old.steps c.args.id c.held.result c.in-Some.held c.requires.kept c.held.ensures c.in-Some.is)) (c.index_mut-2.ensures.value ∙ ap (λ (p : Parts). slice_index_or p.nodes.items c.in-Some.held.to c.index_mut-2.result.now) here)) in
@@ -56,8 +56,8 @@ hear-requires-clause-room c =
 pub hear-requires-clause-from : goal.hear-requires-clause-from
 hear-requires-clause-from c =
     let old = c.args.self.now in
-    let here : c.match-again.self ≡ changed old c.in-Some.held.to c.make_room.new.self old.radio = elim c.match-again.branch [
-      | in-Some-again w ↦ w.self-is
+    let here : c.match-clone_inline.self ≡ changed old c.in-Some.held.to c.make_room.new.self old.radio = elim c.match-clone_inline.branch [
+      | in-Some-clone_inline w ↦ w.self-is
       | in-None+in_ok-bytes-in-None w ↦ w.self-is
     ] in
     (may_hear old.mesh old.nodes.items old.radio old.ready old.steps c.args.id c.in-Some.held.to (held_seen c.in-Some.held) c.index_mut.result.now c.make_room.new.self c.index_mut-2.result.now
@@ -66,8 +66,8 @@ hear-requires-clause-from c =
 pub hear-requires-clause-other : goal.hear-requires-clause-other
 hear-requires-clause-other c =
     let old = c.args.self.now in
-    let here : c.match-again.self ≡ changed old c.in-Some.held.to c.make_room.new.self old.radio = elim c.match-again.branch [
-      | in-Some-again w ↦ w.self-is
+    let here : c.match-clone_inline.self ≡ changed old c.in-Some.held.to c.make_room.new.self old.radio = elim c.match-clone_inline.branch [
+      | in-Some-clone_inline w ↦ w.self-is
       | in-None+in_ok-bytes-in-None w ↦ w.self-is
     ] in
     (may_hear old.mesh old.nodes.items old.radio old.ready old.steps c.args.id c.in-Some.held.to (held_seen c.in-Some.held) c.index_mut.result.now c.make_room.new.self c.index_mut-2.result.now
@@ -76,8 +76,8 @@ hear-requires-clause-other c =
 pub end_with_item-requires-clause-node : goal.end_with_item-requires-clause-node
 end_with_item-requires-clause-node c =
     let old = c.args.self.now in
-    let here : c.match-again.self ≡ changed old c.in-Some.held.to c.make_room.new.self old.radio = elim c.match-again.branch [
-      | in-Some-again w ↦ w.self-is
+    let here : c.match-clone_inline.self ≡ changed old c.in-Some.held.to c.make_room.new.self old.radio = elim c.match-clone_inline.branch [
+      | in-Some-clone_inline w ↦ w.self-is
       | in-None+in_ok-bytes-in-None w ↦ w.self-is
     ] in
     let count = ap (λ (p : Parts). length (slice_set p.nodes.items c.in-Some.held.to c.hear.new.self)) here ∙ count_again old.mesh old.nodes.items old.radio old.ready old.steps c.in-Some.held.to c.make_room.new.self c.hear.new.self c.requires.kept in
@@ -87,8 +87,8 @@ end_with_item-requires-clause-node c =
 pub end_with_item-requires-clause-few : goal.end_with_item-requires-clause-few
 end_with_item-requires-clause-few c =
     let old = c.args.self.now in
-    let here : c.match-again.self ≡ changed old c.in-Some.held.to c.make_room.new.self old.radio = elim c.match-again.branch [
-      | in-Some-again w ↦ w.self-is
+    let here : c.match-clone_inline.self ≡ changed old c.in-Some.held.to c.make_room.new.self old.radio = elim c.match-clone_inline.branch [
+      | in-Some-clone_inline w ↦ w.self-is
       | in-None+in_ok-bytes-in-None w ↦ w.self-is
     ] in
     let count = ap (λ (p : Parts). length (slice_set p.nodes.items c.in-Some.held.to c.hear.new.self)) here ∙ count_again old.mesh old.nodes.items old.radio old.ready old.steps c.in-Some.held.to c.make_room.new.self c.hear.new.self c.requires.kept in
@@ -98,8 +98,8 @@ end_with_item-requires-clause-few c =
 pub remove_found-requires : goal.remove_found-requires
 remove_found-requires c =
     let old = c.args.self.now in
-    let here : c.match-again.self ≡ changed old c.in-Some.held.to c.make_room.new.self old.radio = elim c.match-again.branch [
-      | in-Some-again w ↦ w.self-is
+    let here : c.match-clone_inline.self ≡ changed old c.in-Some.held.to c.make_room.new.self old.radio = elim c.match-clone_inline.branch [
+      | in-Some-clone_inline w ↦ w.self-is
       | in-None+in_ok-bytes-in-None w ↦ w.self-is
     ] in
     let receiver : Parts → Option ℕ = λ p. option_map (λ (f : Flying). f.to) (find_copy (p.radio).flying c.args.id) in
@@ -109,8 +109,8 @@ remove_found-requires c =
 pub returns-clause-done : goal.returns-clause-done
 returns-clause-done c = λ packet.
     let old = c.args.self.now in
-    let here : c.match-again.self ≡ changed old c.in-Some.held.to c.make_room.new.self old.radio = elim c.match-again.branch [
-      | in-Some-again w ↦ w.self-is
+    let here : c.match-clone_inline.self ≡ changed old c.in-Some.held.to c.make_room.new.self old.radio = elim c.match-clone_inline.branch [
+      | in-Some-clone_inline w ↦ w.self-is
       | in-None+in_ok-bytes-in-None w ↦ w.self-is
     ] in
     let to = c.in-Some.held.to in
@@ -119,19 +119,19 @@ returns-clause-done c = λ packet.
     let at = ap (λ (p : Parts). slice_get (slice_set p.nodes.items to c.hear.new.self) to) here ∙ set_got_again old.nodes.items to c.make_room.new.self c.hear.new.self there in
     let at_first = node_at old.mesh old.nodes.items old.radio old.ready old.steps to c.index_mut.result.now c.requires.kept within c.index_mut.ensures.value in
     let same = read_back old.nodes.items to c.make_room.new.self c.index_mut-2.result.now there (c.index_mut-2.ensures.value ∙ ap (λ (p : Parts). slice_index_or p.nodes.items c.in-Some.held.to c.index_mut-2.result.now) here) in
-    let bytes : c.match-again.bytes ≡ c.in-Some.held.bytes.now = elim c.match-again.branch [
-      | in-Some-again w ↦ w.bytes-is ∙ w.in-Some-again.ensures.value
+    let bytes : c.match-clone_inline.bytes ≡ c.in-Some.held.bytes.now = elim c.match-clone_inline.branch [
+      | in-Some-clone_inline w ↦ w.bytes-is ∙ w.in-Some-clone_inline.ensures.value
       | in-None+in_ok-bytes-in-None w ↦ w.bytes-is ∙ w.in_ok-bytes-in-None.ensures.copy ∙ w.as_slice.ensures
     ] in
     let j = subst (λ (bs : List ℕ). Joined c.index_mut.result.now c.hear.new.self (item.Heard c.in-Some.held.from bs)) bytes (joined c.index_mut.result.now c.index_mut-2.result.now c.hear.new.self _ (ap (λ n. n.core) same ∙ c.make_room.ensures.core) (ap (λ n. n.items) same ∙ c.make_room.ensures.items) (ap (λ n. n.size) same ∙ c.make_room.ensures.size) c.hear.ensures (c.end_with_item.ensures.sound c.hear.new.self at)) in
     told_done _ _ _ _ _ _ _ _ (
-    at_end _ old (changed c.match-again.self to c.hear.new.self c.remove_found.new.self) (record c.end_with_item.new.self { radio = c.remove_found.new.self }) _ packet
+    at_end _ old (changed c.match-clone_inline.self to c.hear.new.self c.remove_found.new.self) (record c.end_with_item.new.self { radio = c.remove_found.new.self }) _ packet
     (ap (λ (p : Parts). record p { radio = c.remove_found.new.self }) c.end_with_item.ensures.others)
     (subst (λ (p : Parts). IsDoneTo (Deliver c.args.id) old (Ok (done.Heard c.in-Some.held.from to)) (record (changed p to c.hear.new.self c.remove_found.new.self) { steps = p.steps + 1; ready = c.end_with_item.new.self.ready }) packet) (sym here)
     (of_ends _ old _ _ _ _ _ _ (deliver_done old.mesh old.nodes.items old.radio c.remove_found.new.self old.ready c.end_with_item.new.self.ready old.steps c.args.id to (held_seen c.in-Some.held)
     c.index_mut.result.now c.make_room.new.self c.hear.new.self packet c.requires.kept c.requires.few (seen_flying old.mesh old.nodes.items old.radio old.ready old.steps c.args.id c.held.result c.in-Some.held c.requires.kept c.held.ensures c.in-Some.is) (c.remove_found.ensures ∙ ap (λ (p : Parts). without_copy p.radio c.args.id) c.end_with_item.ensures.others ∙ ap (λ (p : Parts). without_copy p.radio c.args.id) here) at_first j
     (noted_joined old.mesh old.nodes.items old.radio old.ready c.end_with_item.new.self.ready old.steps to c.index_mut.result.now c.hear.new.self _ c.requires.kept at_first j (c.end_with_item.ensures.ready ∙ ap (λ (p : Parts). with_turn p.ready to) here)))))
-    ) c.tell-2.ensures.event_counts c.tell-2.ensures.told
+    ) c.tell-2.ensures.event_counts c.tell-2.ensures.left
 
 pub returns-in_err-make_room-clause-memory : goal.returns-in_err-make_room-clause-memory
 returns-in_err-make_room-clause-memory c = λ short.

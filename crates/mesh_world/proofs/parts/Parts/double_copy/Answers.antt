@@ -12,15 +12,15 @@ returns-in_default-clause-done c = λ packet.
     let old = c.args.self.now in
     told_done _ _ _ _ _ _ _ _ (
     of_ends _ old _ _ _ _ _ _ (double_idle old.mesh old.nodes.items old.radio old.ready old.steps c.args.id c.held.result packet c.requires.kept c.requires.few c.held.ensures c.in_default.is)
-    ) c.tell.ensures.event_counts c.tell.ensures.told
+    ) c.tell.ensures.event_counts c.tell.ensures.left
 
 pub returns-clause-done : goal.returns-clause-done
 returns-clause-done c = λ packet.
     let old = c.args.self.now in
     told_done _ _ _ _ _ _ _ _ (
     of_ends _ old _ _ _ _ _ _ (double_done old.mesh old.nodes.items old.radio c.make_room.new.self c.double.new.self old.ready old.steps c.args.id c.in-Some-double.id c.in-Some-double.to c.is_data-parcel.result
-    c.held.result c.in-Some.held c.double.result packet c.requires.kept c.requires.few c.held.ensures c.in-Some.is (c.is_data-parcel.ensures ∙ ap is_data c.as_slice.ensures) c.make_room.ensures.same c.double.ensures.told c.in-Some-double.is c.double.ensures.doubled)
-    ) c.tell-2.ensures.event_counts c.tell-2.ensures.told
+    c.held.result c.in-Some.held c.double.result packet c.requires.kept c.requires.few c.held.ensures c.in-Some.is (c.is_data-parcel.ensures ∙ ap is_data c.as_slice.ensures) c.make_room.ensures.same c.double.ensures.given c.in-Some-double.is c.double.ensures.doubled)
+    ) c.tell-2.ensures.event_counts c.tell-2.ensures.left
 
 pub returns-in_err-make_room-clause-memory : goal.returns-in_err-make_room-clause-memory
 returns-in_err-make_room-clause-memory c = λ short.

@@ -12,7 +12,7 @@ returns-in_default-clause-done c = λ packet.
     let old = c.args.self.now in
     told_done _ _ _ _ _ _ _ _ (
     of_ends _ old _ _ _ _ _ _ (lose_idle old.mesh old.nodes.items old.radio old.ready old.steps c.args.id c.held.result packet c.requires.kept c.requires.few c.held.ensures c.in_default.is)
-    ) c.tell.ensures.event_counts c.tell.ensures.told
+    ) c.tell.ensures.event_counts c.tell.ensures.left
 
 pub remove_found-requires : goal.remove_found-requires
 remove_found-requires c =
@@ -24,7 +24,7 @@ returns-clause-done c = λ packet.
     told_done _ _ _ _ _ _ _ _ (
     of_ends _ old _ _ _ _ _ _ (lose_done old.mesh old.nodes.items old.radio c.remove_found.new.self old.ready old.steps c.args.id c.held.result c.in-Some.held _ packet
     c.requires.kept c.requires.few c.held.ensures c.in-Some.is refl (c.in_ok-copy_of.ensures.copy ∙ c.as_slice.ensures) c.remove_found.ensures)
-    ) c.tell-2.ensures.event_counts c.tell-2.ensures.told
+    ) c.tell-2.ensures.event_counts c.tell-2.ensures.left
 
 pub returns-in_err-copy_of-clause-memory : goal.returns-in_err-copy_of-clause-memory
 returns-in_err-copy_of-clause-memory c = λ short.

@@ -11,8 +11,8 @@ returns-in-Give-clause-sound c = (c.give.ensures.done c.args.out.now.items).done
 pub returns-in-Give-clause-counted : goal.returns-in-Give-clause-counted
 returns-in-Give-clause-counted c = counted_at _ _ _ _ _ _ _ _ _ c.in-Give.is c.self.view_is (c.give.ensures.done c.args.out.now.items)
 
-pub returns-in-Give-clause-told : goal.returns-in-Give-clause-told
-returns-in-Give-clause-told c = steps_at _ _ _ _ _ _ _ _ _ c.in-Give.is c.self.view_is (c.give.ensures.done c.args.out.now.items)
+pub returns-in-Give-clause-left : goal.returns-in-Give-clause-left
+returns-in-Give-clause-left c = steps_at _ _ _ _ _ _ _ _ _ c.in-Give.is c.self.view_is (c.give.ensures.done c.args.out.now.items)
 
 pub returns-in-Give-clause-account : goal.returns-in-Give-clause-account
 returns-in-Give-clause-account c = accounted_at _ _ _ _ _ _ _ _ _ c.in-Give.is c.self.view_is c.self.invariant c.requires.event (c.give.ensures.done c.args.out.now.items)
@@ -26,8 +26,8 @@ returns-in-Turn-clause-sound c = (c.act.ensures.done).done.kept.sound
 pub returns-in-Turn-clause-counted : goal.returns-in-Turn-clause-counted
 returns-in-Turn-clause-counted c = counted_at _ _ _ _ _ _ _ _ _ c.in-Turn.is c.self.view_is (c.act.ensures.done)
 
-pub returns-in-Turn-clause-told : goal.returns-in-Turn-clause-told
-returns-in-Turn-clause-told c = steps_at _ _ _ _ _ _ _ _ _ c.in-Turn.is c.self.view_is (c.act.ensures.done)
+pub returns-in-Turn-clause-left : goal.returns-in-Turn-clause-left
+returns-in-Turn-clause-left c = steps_at _ _ _ _ _ _ _ _ _ c.in-Turn.is c.self.view_is (c.act.ensures.done)
 
 pub returns-in-Turn-clause-account : goal.returns-in-Turn-clause-account
 returns-in-Turn-clause-account c = accounted_at _ _ _ _ _ _ _ _ _ c.in-Turn.is c.self.view_is c.self.invariant c.requires.event (c.act.ensures.done)
@@ -41,8 +41,8 @@ returns-in-Send-clause-sound c = (c.act-in-Send.ensures.done).done.kept.sound
 pub returns-in-Send-clause-counted : goal.returns-in-Send-clause-counted
 returns-in-Send-clause-counted c = counted_at _ _ _ _ _ _ _ _ _ c.in-Send.is c.self.view_is (c.act-in-Send.ensures.done)
 
-pub returns-in-Send-clause-told : goal.returns-in-Send-clause-told
-returns-in-Send-clause-told c = steps_at _ _ _ _ _ _ _ _ _ c.in-Send.is c.self.view_is (c.act-in-Send.ensures.done)
+pub returns-in-Send-clause-left : goal.returns-in-Send-clause-left
+returns-in-Send-clause-left c = steps_at _ _ _ _ _ _ _ _ _ c.in-Send.is c.self.view_is (c.act-in-Send.ensures.done)
 
 pub returns-in-Send-clause-account : goal.returns-in-Send-clause-account
 returns-in-Send-clause-account c = accounted_at _ _ _ _ _ _ _ _ _ c.in-Send.is c.self.view_is c.self.invariant c.requires.event (c.act-in-Send.ensures.done)
@@ -56,8 +56,8 @@ returns-in-Ask-clause-sound c = (c.act-in-Ask.ensures.done).done.kept.sound
 pub returns-in-Ask-clause-counted : goal.returns-in-Ask-clause-counted
 returns-in-Ask-clause-counted c = counted_at _ _ _ _ _ _ _ _ _ c.in-Ask.is c.self.view_is (c.act-in-Ask.ensures.done)
 
-pub returns-in-Ask-clause-told : goal.returns-in-Ask-clause-told
-returns-in-Ask-clause-told c = steps_at _ _ _ _ _ _ _ _ _ c.in-Ask.is c.self.view_is (c.act-in-Ask.ensures.done)
+pub returns-in-Ask-clause-left : goal.returns-in-Ask-clause-left
+returns-in-Ask-clause-left c = steps_at _ _ _ _ _ _ _ _ _ c.in-Ask.is c.self.view_is (c.act-in-Ask.ensures.done)
 
 pub returns-in-Ask-clause-account : goal.returns-in-Ask-clause-account
 returns-in-Ask-clause-account c = accounted_at _ _ _ _ _ _ _ _ _ c.in-Ask.is c.self.view_is c.self.invariant c.requires.event (c.act-in-Ask.ensures.done)
@@ -71,8 +71,8 @@ returns-in-Link-clause-sound c = (c.link.ensures.done c.args.out.now.items).done
 pub returns-in-Link-clause-counted : goal.returns-in-Link-clause-counted
 returns-in-Link-clause-counted c = counted_at _ _ _ _ _ _ _ _ _ c.in-Link.is c.self.view_is (c.link.ensures.done c.args.out.now.items)
 
-pub returns-in-Link-clause-told : goal.returns-in-Link-clause-told
-returns-in-Link-clause-told c = steps_at _ _ _ _ _ _ _ _ _ c.in-Link.is c.self.view_is (c.link.ensures.done c.args.out.now.items)
+pub returns-in-Link-clause-left : goal.returns-in-Link-clause-left
+returns-in-Link-clause-left c = steps_at _ _ _ _ _ _ _ _ _ c.in-Link.is c.self.view_is (c.link.ensures.done c.args.out.now.items)
 
 pub returns-in-Link-clause-account : goal.returns-in-Link-clause-account
 returns-in-Link-clause-account c = accounted_at _ _ _ _ _ _ _ _ _ c.in-Link.is c.self.view_is c.self.invariant c.requires.event (c.link.ensures.done c.args.out.now.items)
@@ -86,8 +86,8 @@ returns-in-Cut-clause-sound c = (c.cut.ensures.done c.args.out.now.items).done.k
 pub returns-in-Cut-clause-counted : goal.returns-in-Cut-clause-counted
 returns-in-Cut-clause-counted c = counted_at _ _ _ _ _ _ _ _ _ c.in-Cut.is c.self.view_is (c.cut.ensures.done c.args.out.now.items)
 
-pub returns-in-Cut-clause-told : goal.returns-in-Cut-clause-told
-returns-in-Cut-clause-told c = steps_at _ _ _ _ _ _ _ _ _ c.in-Cut.is c.self.view_is (c.cut.ensures.done c.args.out.now.items)
+pub returns-in-Cut-clause-left : goal.returns-in-Cut-clause-left
+returns-in-Cut-clause-left c = steps_at _ _ _ _ _ _ _ _ _ c.in-Cut.is c.self.view_is (c.cut.ensures.done c.args.out.now.items)
 
 pub returns-in-Cut-clause-account : goal.returns-in-Cut-clause-account
 returns-in-Cut-clause-account c = accounted_at _ _ _ _ _ _ _ _ _ c.in-Cut.is c.self.view_is c.self.invariant c.requires.event (c.cut.ensures.done c.args.out.now.items)
@@ -101,8 +101,8 @@ returns-in-Deliver-clause-sound c = (c.deliver_copy.ensures.done c.args.out.now.
 pub returns-in-Deliver-clause-counted : goal.returns-in-Deliver-clause-counted
 returns-in-Deliver-clause-counted c = counted_at _ _ _ _ _ _ _ _ _ c.in-Deliver.is c.self.view_is (c.deliver_copy.ensures.done c.args.out.now.items)
 
-pub returns-in-Deliver-clause-told : goal.returns-in-Deliver-clause-told
-returns-in-Deliver-clause-told c = steps_at _ _ _ _ _ _ _ _ _ c.in-Deliver.is c.self.view_is (c.deliver_copy.ensures.done c.args.out.now.items)
+pub returns-in-Deliver-clause-left : goal.returns-in-Deliver-clause-left
+returns-in-Deliver-clause-left c = steps_at _ _ _ _ _ _ _ _ _ c.in-Deliver.is c.self.view_is (c.deliver_copy.ensures.done c.args.out.now.items)
 
 pub returns-in-Deliver-clause-account : goal.returns-in-Deliver-clause-account
 returns-in-Deliver-clause-account c = accounted_at _ _ _ _ _ _ _ _ _ c.in-Deliver.is c.self.view_is c.self.invariant c.requires.event (c.deliver_copy.ensures.done c.args.out.now.items)
@@ -116,8 +116,8 @@ returns-in-Lose-clause-sound c = (c.lose_copy.ensures.done c.args.out.now.items)
 pub returns-in-Lose-clause-counted : goal.returns-in-Lose-clause-counted
 returns-in-Lose-clause-counted c = counted_at _ _ _ _ _ _ _ _ _ c.in-Lose.is c.self.view_is (c.lose_copy.ensures.done c.args.out.now.items)
 
-pub returns-in-Lose-clause-told : goal.returns-in-Lose-clause-told
-returns-in-Lose-clause-told c = steps_at _ _ _ _ _ _ _ _ _ c.in-Lose.is c.self.view_is (c.lose_copy.ensures.done c.args.out.now.items)
+pub returns-in-Lose-clause-left : goal.returns-in-Lose-clause-left
+returns-in-Lose-clause-left c = steps_at _ _ _ _ _ _ _ _ _ c.in-Lose.is c.self.view_is (c.lose_copy.ensures.done c.args.out.now.items)
 
 pub returns-in-Lose-clause-account : goal.returns-in-Lose-clause-account
 returns-in-Lose-clause-account c = accounted_at _ _ _ _ _ _ _ _ _ c.in-Lose.is c.self.view_is c.self.invariant c.requires.event (c.lose_copy.ensures.done c.args.out.now.items)
@@ -131,8 +131,8 @@ returns-in-Double-clause-sound c = (c.double_copy.ensures.done c.args.out.now.it
 pub returns-in-Double-clause-counted : goal.returns-in-Double-clause-counted
 returns-in-Double-clause-counted c = counted_at _ _ _ _ _ _ _ _ _ c.in-Double.is c.self.view_is (c.double_copy.ensures.done c.args.out.now.items)
 
-pub returns-in-Double-clause-told : goal.returns-in-Double-clause-told
-returns-in-Double-clause-told c = steps_at _ _ _ _ _ _ _ _ _ c.in-Double.is c.self.view_is (c.double_copy.ensures.done c.args.out.now.items)
+pub returns-in-Double-clause-left : goal.returns-in-Double-clause-left
+returns-in-Double-clause-left c = steps_at _ _ _ _ _ _ _ _ _ c.in-Double.is c.self.view_is (c.double_copy.ensures.done c.args.out.now.items)
 
 pub returns-in-Double-clause-account : goal.returns-in-Double-clause-account
 returns-in-Double-clause-account c = accounted_at _ _ _ _ _ _ _ _ _ c.in-Double.is c.self.view_is c.self.invariant c.requires.event (c.double_copy.ensures.done c.args.out.now.items)

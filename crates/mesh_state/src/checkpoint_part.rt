@@ -1,8 +1,8 @@
-//! The front of an input, where a checkpoint is.
+//! The checkpoint part of an input: its first bytes, where a checkpoint is.
 ghost use Rattle.std.specs.Prelude.{◌≡◌, ◌≤◌, ◌<◌, ◌+◌, ◌⊎◌, length, take, drop, IfOk, IfSome, IfNone, IsErrOf, vec_len};
 ghost use Rattle.mesh_run.specs.Causes.{HasCauseIf};
 ghost use Rattle.mesh_checkpoint.specs.State.{magic, stated_size};
-ghost use Rattle.mesh_state.specs.Fronts.{IsOtherHead, IsTaken, IsFrontCut, TakesFewer, TakesUpTo};
+ghost use Rattle.mesh_state.specs.CheckpointParts.{IsOtherHead, IsTaken, IsCheckpointPartCut, TakesFewer, TakesUpTo};
 
 use mesh_checkpoint::LONGEST_BODY;
 use mesh_io::Source;
@@ -14,9 +14,9 @@ pub const HEAD_SIZE: usize = 8;
 // The most bytes that a read asks for.
 const ASKED: usize = 4096;
 
-/// Why a front wasn't read.
+/// Why a checkpoint part wasn't read.
 #[derive(Clone, Copy, PartialEq, Eq)]
-pub enum FrontError {
+pub enum CheckpointPartError {
     /// The source failed.
     ReadFault,
     /// Memory was asked for, and there wasn't enough.
@@ -24,14 +24,18 @@ pub enum FrontError {
 }
 
 // Reads `count` bytes and appends them to those that are there, or all that come if they are fewer.
-fn take_more<I: Source>(input: &mut I, count: usize, bytes: &mut Vec<u8>) -> Result<(), FrontError>
+fn take_more<I: Source>(
+    input: &mut I,
+    count: usize,
+    bytes: &mut Vec<u8>,
+) -> Result<(), CheckpointPartError>
     ensures kept { take (vec_len bytes.old) bytes.new.items ≡ bytes.old.items }
     ensures few { vec_len bytes.new ≤ vec_len bytes.old + count }
     ensures taken { IfOk result (λ _. TakesUpTo count (I.left input.old) (I.left input.new)
         (drop (vec_len bytes.old) bytes.new.items)) }
-    ensures cut { IsErrOf result FrontError.ReadFault → TakesFewer count (I.left input.old)
+    ensures cut { IsErrOf result CheckpointPartError.ReadFault → TakesFewer count (I.left input.old)
         (I.left input.new) (drop (vec_len bytes.old) bytes.new.items) }
-    ensures cause { HasCauseIf (IsErrOf result FrontError.ReadFault)
+    ensures cause { HasCauseIf (IsErrOf result CheckpointPartError.ReadFault)
         (I.faults input.old) (I.faults input.new) }
 {
     let mut chunk = [0; ASKED];
@@ -39,13 +43,13 @@ fn take_more<I: Source>(input: &mut I, count: usize, bytes: &mut Vec<u8>) -> Res
     while left > 0 {
         let room = left.min(ASKED);
         let Ok(n) = input.take(&mut chunk[..room]) else {
-            return Err(FrontError::ReadFault);
+            return Err(CheckpointPartError::ReadFault);
         };
         if n == 0 {
             return Ok(());
         }
         if bytes.extend_from_slice(&chunk[..n]).is_err() {
-            return Err(FrontError::NoMemory);
+            return Err(CheckpointPartError::NoMemory);
         }
         left -= n;
     }
@@ -71,22 +75,25 @@ fn body_size(head: &[u8]) -> Option<usize>
     Some(size as usize)
 }
 
-/// Reads the front of an input. If its first 8 bytes show that no checkpoint's body follows, no
-/// byte beyond them is read; otherwise none beyond the front.
+/// Reads the checkpoint part of an input. If its first 8 bytes show that no checkpoint's body
+/// follows, no byte beyond them is read; otherwise none beyond the checkpoint part.
 ///
 /// Memory is taken for the bytes as they come, and not for a length that a head merely states.
-pub fn take_front<I: Source>(alloc: Global, input: &mut I) -> Result<Vec<u8>, FrontError>
-    ensures taken { IfOk result (λ front. IfSome (I.left input.old) (λ bytes.
-        IsTaken bytes front.items (I.left input.new))) }
-    ensures cut { IsErrOf result FrontError.ReadFault → IfSome (I.left input.old) (λ bytes.
-        IsFrontCut bytes (I.left input.new)) }
-    ensures cause { HasCauseIf (IsErrOf result FrontError.ReadFault)
+pub fn take_checkpoint_part<I: Source>(
+    alloc: Global,
+    input: &mut I,
+) -> Result<Vec<u8>, CheckpointPartError>
+    ensures taken { IfOk result (λ checkpoint_part. IfSome (I.left input.old) (λ bytes.
+        IsTaken bytes checkpoint_part.items (I.left input.new))) }
+    ensures cut { IsErrOf result CheckpointPartError.ReadFault → IfSome (I.left input.old) (λ bytes.
+        IsCheckpointPartCut bytes (I.left input.new)) }
+    ensures cause { HasCauseIf (IsErrOf result CheckpointPartError.ReadFault)
         (I.faults input.old) (I.faults input.new) }
 {
-    let mut front = Vec::new(alloc);
-    take_more(input, HEAD_SIZE, &mut front)?;
-    if let Some(size) = body_size(&front) {
-        take_more(input, size, &mut front)?;
+    let mut checkpoint_part = Vec::new(alloc);
+    take_more(input, HEAD_SIZE, &mut checkpoint_part)?;
+    if let Some(size) = body_size(&checkpoint_part) {
+        take_more(input, size, &mut checkpoint_part)?;
     }
-    Ok(front)
+    Ok(checkpoint_part)
 }

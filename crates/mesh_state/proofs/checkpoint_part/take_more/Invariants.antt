@@ -1,7 +1,7 @@
 -- What was taken stands behind the bytes, and no fault came.
 use Rattle.std.proofs.Common.{◌≡◌, ◌≤◌, ◌+◌, vec_len}
 use Rattle.mesh_state.proofs.Taking.{HasTaken}
-use Rattle.mesh_state.proofs.front.take_more.Given as goal
+use Rattle.mesh_state.proofs.checkpoint_part.take_more.Given as goal
 
 abbrev pub invariant-loop-left : goal.invariant-loop-left
 invariant-loop-left g l = record {

@@ -1,7 +1,7 @@
 -- A prefix of the piece is written, and no fault came.
 use Rattle.std.proofs.Common.{length, ◌-◌, ◌≡◌, ◌≤◌, take}
 use Rattle.std.specs.Io.KnownBytes.{Appends}
-use Rattle.mesh_io.proofs.put.put_front.Given as goal
+use Rattle.mesh_io.proofs.put.put_prefix.Given as goal
 
 abbrev pub invariant-loop-written : goal.invariant-loop-written
 invariant-loop-written g l = record {

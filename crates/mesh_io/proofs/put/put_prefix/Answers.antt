@@ -1,6 +1,6 @@
 use Rattle.std.proofs.Common.{rules, arith}
 use Rattle.mesh_io.proofs.Writing.{Appends-join, take_on}
-use Rattle.mesh_io.proofs.put.put_front.Goals as goal
+use Rattle.mesh_io.proofs.put.put_prefix.Goals as goal
 
 pub loop-written-preserved : goal.loop-written-preserved
 loop-written-preserved g c = record {

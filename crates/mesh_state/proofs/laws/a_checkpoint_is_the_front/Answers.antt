@@ -1,5 +1,0 @@
-use Rattle.mesh_state.proofs.Checkpoints as lemmas
-use Rattle.mesh_state.proofs.laws.a_checkpoint_is_the_front.Goals as goal
-
-pub returns : goal.returns
-returns c = lemmas.checkpoint_is_front
