@@ -4,8 +4,8 @@
         router.give("10.0.0.2", b"hello")
         outcome = router.turn(near=["10.0.0.2"])
 
-An address is given as anything that ipaddress.IPv4Address takes, and told as an IPv4Address. A call that is refused
-raises Refused; the router is then as it was, but that after MALFORMED and NAMES_STRANGER the packet is gone from the
+An address is given as anything that ipaddress.IPv4Address takes, and returned as an IPv4Address. A call that is refused
+raises Refused; the router is then as it was, except that after MALFORMED and NAMES_STRANGER the packet is gone from the
 inbox. One router is used by one thread at a time. The library is libaodv.so.1 of the file that AODV_LIBRARY names, of
 the repository where this file stands in it, or of the system."""
 import ctypes

@@ -9,7 +9,7 @@ use std::net::Ipv4Addr;
 
 mod raw;
 
-/// Why a call is refused. The router is then as it was, but that after `Malformed` and
+/// Why a call is refused. The router is then as it was, except that after `Malformed` and
 /// `NamesStranger` the packet is gone from the inbox.
 #[derive(Clone, Copy, Debug, PartialEq, Eq)]
 pub enum Refused {

@@ -1,10 +1,10 @@
 -- Read in this order.
--- Places: places on a grid, which are within reach of each other, and where nodes are.
+-- Places: places on a grid, which of them are within reach of each other, and where nodes are.
 pub mod Places
 -- Lines: the lines that put a node at a place.
 pub mod Lines
--- Links: which nodes are within reach of each other, and the changes that follow when a node comes
--- to a place.
+-- Links: which nodes are within reach of each other, and the links that are made and cut when a node
+-- comes to a place.
 pub mod Links
 -- Text: the text of a run with places, and its verdict.
 pub mod Text

@@ -1,4 +1,4 @@
--- Which nodes are within reach of each other, and the changes that follow when a node comes
+-- Which nodes are within reach of each other, and the links that are made and cut when a node comes
 -- to a place.
 use Rattle.std.specs.Prelude.{ℕ, zero, suc, ◌==◌, not, ◌&&◌, min, max, Bool, true, false, if◌then◌else◌, List, [], ◌∷◌, ◌++◌, Option, Some, None}
 use Rattle.std.specs.FinSet as sets
@@ -23,8 +23,8 @@ is_in_reach reach places a b =
 
 -- ---- changes
 
--- the link between x and y, the smaller first, is made if they are within reach and it doesn't
--- stand; it is cut if it stands and they aren't
+-- the link between x and y, the smaller first, is made if the two are within reach of each other and
+-- the link doesn't stand; it is cut if it stands and they aren't
 abbrev pub change : (in_reach stands : Bool) → ℕ → ℕ → List Event
 change true false x y = Link (min x y) (max x y) ∷ []
 change false true x y = Cut (min x y) (max x y) ∷ []

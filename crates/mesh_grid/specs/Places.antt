@@ -1,4 +1,4 @@
--- Places on a grid, which are within reach of each other, and where nodes are.
+-- Places on a grid, which of them are within reach of each other, and where nodes are.
 use Rattle.std.specs.Prelude.{ℕ, ◌+◌, ◌-◌, ◌*◌, nat_le, Bool, true, false, replicate, Option, Some, None, get_or, slice_set}
 use Rattle.mesh_base.specs.declared.limits.TheConstants.{MOST_NODES}
 use Rattle.mesh_grid.specs.declared.place.Place.{Place}

@@ -12,9 +12,9 @@ const SIZE: usize = 65536;
 /// Memory for 65536 bytes. In contracts it is the bytes that are gathered in it.
 #[derive(Drop)]
 pub struct ReservedBuffer {
-    // Always 65536 bytes: a piece is copied into them, and the vector isn't extended.
+    // Always 65536 bytes. A piece is copied over some of them, so the vector never grows.
     cells: Vec<u8>,
-    // How many bytes are gathered: the first ones.
+    // How many of them, from the first on, are gathered bytes.
     len: usize,
 }
 

@@ -13,9 +13,9 @@ pub mod Invariants
 pub mod Accounts
 -- Trails: the walks over links that once stood, from which each valid route came.
 pub mod Trails
--- Kept: a list for each of these walks, and what each event does to the lists.
+-- Kept: the lists in which these walks are kept, and what each event does to the lists.
 pub mod Kept
--- Held: that these lists are walks of a world's entries, requests and replies.
+-- Held: that these lists are walks for a world's entries, requests and replies.
 pub mod Held
 -- Routes: where the valid next hops of a world lead.
 pub mod Routes

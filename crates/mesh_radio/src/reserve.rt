@@ -109,7 +109,7 @@ impl Reserve {
         self.fill_room(bytes, copies)
     }
 
-    // `fill`, for a packet that needs a room.
+    // `fill`, for a packet too long to be kept inline.
     #[inline(never)]
     fn fill_room(&mut self, bytes: &[u8], copies: usize) -> Bytes
         requires room { (1 ≤ copies) × (copies ≤ self.old.room) }

@@ -220,7 +220,7 @@ fn address_and_text<'a>(mesh: &Mesh, at: usize, arguments: Option<&'a [u8]>) -> 
 
 /// The arguments of this form, or the first fault. `arguments` are the bytes after the command and
 /// its space, which begin at `at`, or None if there is no space. The mesh affects only how long
-/// this takes: addresses that begin as most of its own do are read faster.
+/// this takes: addresses that begin as most addresses of the mesh do are read faster.
 pub fn arguments_of<'a>(mesh: &Mesh, form: Form, at: usize, arguments: Option<&'a [u8]>) -> Read<'a>
     requires { IfSome arguments (λ words. at + length words.now < slice_end) }
     ensures { all_spanned_in result ≡ forms.arguments_of form at (rest_parts 32 arguments.entry) }

@@ -80,7 +80,7 @@ pub fn next_at(at: usize, word: &[u8]) -> usize
 }
 
 /// A word as an address. The mesh affects only how long this takes: an address that begins as most
-/// of its own do is read faster.
+/// addresses of the mesh do is read faster.
 #[inline(always)]
 pub fn address(mesh: &Mesh, at: usize, word: &[u8]) -> Result<SpannedAddr, LineFault>
     requires { at + length word.now < slice_end }

@@ -1,4 +1,4 @@
--- The checkpoint part of an input, where a checkpoint is, and the rest that follows it.
+-- The checkpoint part of an input, where a checkpoint belongs, and the rest that follows it.
 use Rattle.std.specs.Prelude.{ℕ, ◌≡◌, ◌≢◌, ◌<◌, ◌+◌, ◌⊎◌, Bool, ◌&&◌, nat_le, if◌then◌else◌, List, length, take, drop, Option, Some, None, ⊤}
 use Rattle.std.specs.Io.KnownBytes.{Consumes}
 use Rattle.mesh_checkpoint.specs.declared.limits.TheConstants.{LONGEST_BODY}

@@ -10,7 +10,7 @@ use Rattle.mesh_load.specs.RunStates.{IsPlainRunState}
 use Rattle.mesh_state.specs.CheckpointParts.{checkpoint_part_of, rest_of}
 use Rattle.mesh_state.specs.Saved.{HasWholeLines, IsSavedOf}
 
--- in a checkpoint and what follows it, the checkpoint is the checkpoint part
+-- if an input is a checkpoint and what follows it, its checkpoint part is that checkpoint
 abbrev pub CheckpointIsItsPart : Type 0
 CheckpointIsItsPart = (m : RunState) (saved rest : List ℕ) → IsState saved m
     → (checkpoint_part_of (saved ++ rest) ≡ saved) × (rest_of (saved ++ rest) ≡ rest)

@@ -3,7 +3,7 @@
 pub mod Words
 -- Codes: the status with which the process ends.
 pub mod Codes
--- CheckpointParts: the checkpoint part of an input, where a checkpoint is, and the rest that
+-- CheckpointParts: the checkpoint part of an input, where a checkpoint belongs, and the rest that
 -- follows it.
 pub mod CheckpointParts
 -- Small: what the run of a schedule can have counted.

@@ -1,4 +1,4 @@
-//! The checkpoint part of an input: its first bytes, where a checkpoint is.
+//! The checkpoint part of an input: its first bytes, where a checkpoint belongs.
 ghost use Rattle.std.specs.Prelude.{◌≡◌, ◌≤◌, ◌<◌, ◌+◌, ◌⊎◌, length, take, drop, IfOk, IfSome, IfNone, IsErrOf, vec_len};
 ghost use Rattle.mesh_run.specs.Causes.{HasCauseIf};
 ghost use Rattle.mesh_checkpoint.specs.State.{magic, stated_size};

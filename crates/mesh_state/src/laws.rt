@@ -3,8 +3,8 @@ ghost use Rattle.mesh_state.specs.Laws.{CheckpointIsItsPart, SavedRunGoesOn, Loa
 
 use mesh_load::one_start;
 
-/// In a checkpoint followed by lines, the checkpoint is the checkpoint part, and the lines
-/// are the rest.
+/// If an input is a checkpoint followed by lines, its checkpoint part is that checkpoint, and the
+/// lines are the rest.
 pub fn a_checkpoint_is_its_part()
     ensures { CheckpointIsItsPart }
 {}

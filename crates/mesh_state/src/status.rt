@@ -18,7 +18,7 @@ pub enum StateStatus {
     TooBig,
 }
 
-// Why a part of a checkpoint is refused.
+// Why a part of a checkpoint's world is refused.
 fn part_reason(part: Part) -> &'static [u8]
     ensures { result.now ≡ part_reason part }
 {
@@ -31,7 +31,7 @@ fn part_reason(part: Part) -> &'static [u8]
     }
 }
 
-// Why a checkpoint part is refused.
+// Why the checkpoint part of the input is refused.
 fn error_reason(why: StateError) -> &'static [u8]
     ensures { result.now ≡ error_reason why }
 {

@@ -282,7 +282,7 @@ fn beside(node: usize) -> NodeSet {
     nodes
 }
 
-// Whether a node does what is wanted when it asks for a route to the third.
+// Whether a node does what `want` says when it asks for a route to the third.
 fn asks<T: Table>(core: &mut Core<T>, mesh: &Mesh, want: Want<'_>, out: &mut Packet) -> bool
     requires mesh { length mesh.now ≡ 3 }
     requires order { IsInOrder T.nodes T.entries (length mesh.now) core.old }
@@ -292,7 +292,7 @@ fn asks<T: Table>(core: &mut Core<T>, mesh: &Mesh, want: Want<'_>, out: &mut Pac
     is_wanted(effect, out, want)
 }
 
-// Whether a node does what is wanted when it sends to the third.
+// Whether a node does what `want` says when it sends to the third.
 fn sends<T: Table>(core: &mut Core<T>, mesh: &Mesh, want: Want<'_>, out: &mut Packet) -> bool
     requires mesh { length mesh.now ≡ 3 }
     requires order { IsInOrder T.nodes T.entries (length mesh.now) core.old }
@@ -303,7 +303,7 @@ fn sends<T: Table>(core: &mut Core<T>, mesh: &Mesh, want: Want<'_>, out: &mut Pa
     is_wanted(Ok(effect), out, want)
 }
 
-// Whether a node does what is wanted when it hears these bytes.
+// Whether a node does what `want` says when it hears these bytes.
 fn hears<T: Table>(
     core: &mut Core<T>,
     mesh: &Mesh,
@@ -321,7 +321,7 @@ fn hears<T: Table>(
 }
 
 // The first of three nodes in a row asks for a route to the third, and gets the reply: whether each
-// call does what is wanted.
+// call does what is expected.
 fn find<T: Table>(
     first: &mut Core<T>,
     second: &mut Core<T>,
@@ -355,7 +355,7 @@ fn find<T: Table>(
 }
 
 // The datum that waits at the first of three nodes comes to the third: whether each call does what
-// is wanted.
+// is expected.
 fn pass_on<T: Table>(
     first: &mut Core<T>,
     second: &mut Core<T>,

@@ -21,7 +21,7 @@ pub(crate) enum Front {
 }
 
 /// What a node has learnt from a message: if `near`, that it has the neighbour `from`, and if
-/// `announced`, the route to `dest` that the message announced.
+/// `announced`, that its entry for `dest` is the route that the message announced.
 #[derive(Clone, Copy)]
 pub(crate) struct Lesson {
     pub from: usize,

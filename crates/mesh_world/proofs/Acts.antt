@@ -41,7 +41,7 @@ use Rattle.mesh_radio.specs.Radios.{RadioState}
 use Rattle.mesh_meaning.specs.Events.{node_of}
 use Rattle.mesh_meaning.specs.Packets.{IsWrittenItem}
 use Rattle.mesh_meaning.specs.Answers.{took_in, IsTookInMesh, IsEffectInMesh, IsDoneInMesh, outcome_in, effect_in, copies_in}
-use Rattle.mesh_world.specs.Acts.{Act, Turn, Send, Ask, IsFor, event_at, NodeResult, node_result_of, turn_node_result, sent_node_result, IsNodeResult, IsActed, done_of}
+use Rattle.mesh_world.specs.Acts.{Act, Turn, Send, Ask, IsFor, event_at, ActResult, act_result_of, turn_result, sent_result, IsActResult, IsActed, done_of}
 use Rattle.mesh_world.specs.declared.act.Unacted.{Unacted}
 use Rattle.mesh_world.specs.declared.act.Unacted.TheVariants as refused
 use Rattle.mesh_world.specs.Seen.{node_in}
@@ -103,7 +103,7 @@ effect_by mesh (Some t) effect flying = worlds.Taken (took_in mesh t) effect fly
 effect_by mesh None effect flying = worlds.Sent effect flying
 
 -- the outcome of what comes of an act of node x
-abbrev pub outcome_of : Nodes → World → ℕ → Option NodeResult → Outcome
+abbrev pub outcome_of : Nodes → World → ℕ → Option ActResult → Outcome
 outcome_of mesh w x None = Idle
 outcome_of mesh w x (Some d) =
     let effect = (d.reaction).effect in
@@ -111,11 +111,11 @@ outcome_of mesh w x (Some d) =
     (Next (done_by w x d.reaction (map (item_in mesh) d.left))
     (effect_by mesh d.took effect (copies w x effect.cast)))
 
-may_step : (mesh : Nodes) (w : World) (x : ℕ) (b : Bool) (d : NodeResult) → (if b then outcome_of mesh w x (Some d) else Idle) ≡ outcome_of mesh w x (if b then Some d else None)
+may_step : (mesh : Nodes) (w : World) (x : ℕ) (b : Bool) (d : ActResult) → (if b then outcome_of mesh w x (Some d) else Idle) ≡ outcome_of mesh w x (if b then Some d else None)
 may_step mesh w x true d = refl
 may_step mesh w x false d = refl
 
-turn_step : (mesh : Nodes) (w : World) (x : ℕ) (core : Core) (is : List items.Item) → turn_of w x core (map (item_in mesh) is) ≡ outcome_of mesh w x (turn_node_result mesh (range w x) core is)
+turn_step : (mesh : Nodes) (w : World) (x : ℕ) (core : Core) (is : List items.Item) → turn_of w x core (map (item_in mesh) is) ≡ outcome_of mesh w x (turn_result mesh (range w x) core is)
 turn_step mesh w x core [] = refl
 turn_step mesh w x core (front ∷ rest) =
     let i = item_in mesh front in
@@ -123,12 +123,12 @@ turn_step mesh w x core (front ∷ rest) =
     ap (λ (t : handlers.Took). unless_full x (turn_full core (range w x) i) (Next (done_by w x reaction (map (item_in mesh) rest)) (worlds.Taken t reaction.effect (copies w x (reaction.effect).cast)))) (sym (took_means mesh core front))
 
 pub act_at : (mesh : Nodes) (nodes : List NodeSeen) (radio : RadioState) (x : ℕ) (n : NodeSeen) (near : NodeIds) (act : Act) → slice_get nodes x ≡ Some n → near ≡ range (world_in mesh nodes radio) x
-    → step (world_in mesh nodes radio) (event_at x act) ≡ outcome_of mesh (world_in mesh nodes radio) x (node_result_of mesh near n act)
+    → step (world_in mesh nodes radio) (event_at x act) ≡ outcome_of mesh (world_in mesh nodes radio) x (act_result_of mesh near n act)
 unfolding step
 act_at mesh nodes radio x n near act at near_is =
-    by act ∙ ap (λ (r : NodeIds). outcome_of mesh (world_in mesh nodes radio) x (node_result_of mesh r n act)) (sym near_is)
+    by act ∙ ap (λ (r : NodeIds). outcome_of mesh (world_in mesh nodes radio) x (act_result_of mesh r n act)) (sym near_is)
   where
-    by : (a : Act) → step (world_in mesh nodes radio) (event_at x a) ≡ outcome_of mesh (world_in mesh nodes radio) x (node_result_of mesh (range (world_in mesh nodes radio) x) n a)
+    by : (a : Act) → step (world_in mesh nodes radio) (event_at x a) ≡ outcome_of mesh (world_in mesh nodes radio) x (act_result_of mesh (range (world_in mesh nodes radio) x) n a)
     by Turn = ap (λ o. at_node o (turn_of (world_in mesh nodes radio) x)) (shown_at mesh nodes radio x n at) ∙ turn_step mesh (world_in mesh nodes radio) x n.core n.items
     by (Send d) = ap (λ o. at_node o (send_of (world_in mesh nodes radio) x d)) (shown_at mesh nodes radio x n at) ∙ may_step mesh (world_in mesh nodes radio) x (may_send n.core d) _
     by (Ask d) = ap (λ o. at_node o (ask_of (world_in mesh nodes radio) x d)) (shown_at mesh nodes radio x n at) ∙ may_step mesh (world_in mesh nodes radio) x (may_ask n.core d) _
@@ -136,23 +136,23 @@ act_at mesh nodes radio x n near act at near_is =
 -- ---- what an act keeps
 
 -- what comes of an act that is enabled
-pub record Sound (mesh : Nodes) (ip : ℕ) (d : NodeResult) : Type 0 where
+pub record Sound (mesh : Nodes) (ip : ℕ) (d : ActResult) : Type 0 where
   pub reacted : IsSoundReaction (length mesh) ip d.reaction
   pub aimed : sound.IsEffectInMesh (length mesh) (d.reaction).effect
   pub items : AllByRecursion (IsWrittenItem mesh) d.left
   pub took : (effect : code.Effect) (air : Air) (out : List ℕ) → IsEffectInMesh mesh effect air out → IsDoneInMesh mesh (done_of d.took effect air) out
 
-given : (b : Bool) (made d : NodeResult) → (if b then Some made else None) ≡ Some d → (b ≡ true) × (made ≡ d)
+given : (b : Bool) (made d : ActResult) → (if b then Some made else None) ≡ Some d → (b ≡ true) × (made ≡ d)
 given true made d e = (refl, same_Some made d e)
 given false made d e = absurd (none-some d e)
 
-sound_node_result : (mesh : Nodes) (x : ℕ) (n : NodeSeen) (near : NodeIds) (act : Act) (d : NodeResult) → x < length mesh → IsNodeInMesh (length mesh) x (node_in mesh n) → IsKeptNode mesh n → node_result_of mesh near n act ≡ Some d → Sound mesh (n.core).ip d
-sound_node_result mesh x n near act d l s had is = by act is
+sound_act_result : (mesh : Nodes) (x : ℕ) (n : NodeSeen) (near : NodeIds) (act : Act) (d : ActResult) → x < length mesh → IsNodeInMesh (length mesh) x (node_in mesh n) → IsKeptNode mesh n → act_result_of mesh near n act ≡ Some d → Sound mesh (n.core).ip d
+sound_act_result mesh x n near act d l s had is = by act is
   where
     mine : (n.core).ip < length mesh
     mine = subst (λ (me : ℕ). me < length mesh) (sym s.named) l
 
-    turned : (is : List items.Item) → AllByRecursion (IsWrittenItem mesh) is → AllByRecursion (IsItemInMesh (length mesh) x) (map (item_in mesh) is) → turn_node_result mesh near n.core is ≡ Some d → Sound mesh (n.core).ip d
+    turned : (is : List items.Item) → AllByRecursion (IsWrittenItem mesh) is → AllByRecursion (IsItemInMesh (length mesh) x) (map (item_in mesh) is) → turn_result mesh near n.core is ≡ Some d → Sound mesh (n.core).ip d
     turned [] written inside e = absurd (none-some d e)
     turned (front ∷ rest) written inside e =
         let here = subst (λ (me : ℕ). IsItemInMesh (length mesh) me (item_in mesh front)) (sym s.named) inside.0 in
@@ -163,7 +163,7 @@ sound_node_result mesh x n near act d l s had is = by act is
           took = λ effect air out h. (took_in_mesh mesh n.core front here written.0, h);
         })
 
-    by : (a : Act) → node_result_of mesh near n a ≡ Some d → Sound mesh (n.core).ip d
+    by : (a : Act) → act_result_of mesh near n a ≡ Some d → Sound mesh (n.core).ip d
     by Turn e = turned n.items had.items s.queue e
     by (Send q) e =
         let g = given (may_send n.core q) _ d e in
@@ -214,15 +214,15 @@ gains x (Send d) o w = omega arith
 gains x (Ask d) o w = omega arith
 
 pub act_done : (mesh : Nodes) (nodes : List NodeSeen) (radio radio' : RadioState) (ready ready' : Ready) (steps x : ℕ) (near : NodeIds) (n new : NodeSeen) (act : Act) (took : Option Took) (effect : code.Effect) (out : List ℕ) (air : Air)
-    → IsKept mesh nodes radio ready steps → steps < 2 ^ 48 → x < length mesh → IsFor (length mesh) act → slice_get nodes x ≡ Some n → near ≡ linked_below radio.links x radio.size → IsSoundNode new → IsNodeResult mesh near act n took effect new out
+    → IsKept mesh nodes radio ready steps → steps < 2 ^ 48 → x < length mesh → IsFor (length mesh) act → slice_get nodes x ≡ Some n → near ≡ linked_below radio.links x radio.size → IsSoundNode new → IsActResult mesh near act n took effect new out
     → Sends mesh x near effect out air radio radio' → ready' ≡ ready_with ready x new (length mesh)
     → Ends (event_at x act) mesh nodes radio steps (Ok (done_of took effect air)) (slice_set nodes x new) radio' ready' (steps + 1) out
 act_done mesh nodes radio radio' ready ready' steps x near n new act took effect out air k few l for at linked sound t sends noted_is =
     let w = world_in mesh nodes radio in
-    let d = t.node_result in
+    let d = t.act_result in
     let near_at : near ≡ range w x = near_is mesh nodes radio ready steps x near k linked in
     let had = kept_node mesh nodes radio ready steps x n k at in
-    let made = sound_node_result mesh x n near act d l (stands mesh nodes radio ready steps x n k at) had t.is in
+    let made = sound_act_result mesh x n near act d l (stands mesh nodes radio ready steps x n k at) had t.is in
     let acts : Acts mesh x new d.reaction effect out = record {
       core = (t.made).core;
       did = (t.made).did;
@@ -268,7 +268,7 @@ act_refused seen old radio x near n new act why out k rooms few l is linked t =
     at : slice_get (old.nodes).items x ≡ Some n
     at = node_at old.mesh (old.nodes).items old.radio old.ready old.steps x n k l is
 
-    does : step (world_in old.mesh (old.nodes).items radio) (event_at x act) ≡ outcome_of old.mesh (world_in old.mesh (old.nodes).items radio) x (node_result_of old.mesh near n act)
+    does : step (world_in old.mesh (old.nodes).items radio) (event_at x act) ≡ outcome_of old.mesh (world_in old.mesh (old.nodes).items radio) x (act_result_of old.mesh near n act)
     does = act_at old.mesh (old.nodes).items radio x n near act at (near_is old.mesh (old.nodes).items radio old.ready old.steps x near r linked)
 
     back : new ≡ n → slice_set (old.nodes).items x new ≡ (old.nodes).items
@@ -291,18 +291,18 @@ act_refused seen old radio x near n new act why out k rooms few l is linked t =
 
 -- ---- what the code of a node answers is that of an act
 
-pub taken_node_result : (mesh : Nodes) (near : NodeIds) (n new : NodeSeen) (d : TurnDone) (out : List ℕ) → IsTaken mesh near n d new out → IsNodeResult mesh near Turn n (Some d.took) d.effect new out
-taken_node_result mesh near n new d out t = record { node_result = _; is = ap (turn_node_result mesh near n.core) t.was; made = t.made; left = refl; taken = ap Some t.took; size = t.size }
+pub taken_act_result : (mesh : Nodes) (near : NodeIds) (n new : NodeSeen) (d : TurnDone) (out : List ℕ) → IsTaken mesh near n d new out → IsActResult mesh near Turn n (Some d.took) d.effect new out
+taken_act_result mesh near n new d out t = record { act_result = _; is = ap (turn_result mesh near n.core) t.was; made = t.made; left = refl; taken = ap Some t.took; size = t.size }
 
-pub full_node_result : (mesh : Nodes) (near : NodeIds) (n new : NodeSeen) (field : Counter) → IsFullAt mesh near n field × (new ≡ n) → (node_result : NodeResult) × (node_result_of mesh near n Turn ≡ Some node_result) × (node_result.full ≡ Some field) × (new ≡ n)
-full_node_result mesh near n new field t = (_, ap (turn_node_result mesh near n.core) t.0.was, t.0.full, t.1)
+pub full_act_result : (mesh : Nodes) (near : NodeIds) (n new : NodeSeen) (field : Counter) → IsFullAt mesh near n field × (new ≡ n) → (act_result : ActResult) × (act_result_of mesh near n Turn ≡ Some act_result) × (act_result.full ≡ Some field) × (new ≡ n)
+full_act_result mesh near n new field t = (_, ap (turn_result mesh near n.core) t.0.was, t.0.full, t.1)
 
 -- a node that takes nothing from its inbox
-pub sent_done : (mesh : Nodes) (near : NodeIds) (act : Act) (n new : NodeSeen) (b : Bool) (full : Option Counter) (reaction : handlers.Reaction) (effect : code.Effect) (out : List ℕ) → node_result_of mesh near n act ≡ sent_node_result n b full reaction → b ≡ true
-    → new ≡ record n { core = new.core } → IsMade mesh full reaction effect new.core out → IsNodeResult mesh near act n None effect new out
+pub sent_done : (mesh : Nodes) (near : NodeIds) (act : Act) (n new : NodeSeen) (b : Bool) (full : Option Counter) (reaction : handlers.Reaction) (effect : code.Effect) (out : List ℕ) → act_result_of mesh near n act ≡ sent_result n b full reaction → b ≡ true
+    → new ≡ record n { core = new.core } → IsMade mesh full reaction effect new.core out → IsActResult mesh near act n None effect new out
 sent_done mesh near act n new b full reaction effect out is may others made = record {
-  node_result = record { full = full; reaction = reaction; left = n.items; took = None };
-  is = is ∙ ap (λ (c : Bool). sent_node_result n c full reaction) may;
+  act_result = record { full = full; reaction = reaction; left = n.items; took = None };
+  is = is ∙ ap (λ (c : Bool). sent_result n c full reaction) may;
   made = made;
   left = ap (λ (m : NodeSeen). m.items) others;
   taken = refl;
@@ -310,8 +310,8 @@ sent_done mesh near act n new b full reaction effect out is may others made = re
 }
 
 pub sent_full : (n new : NodeSeen) (b : Bool) (full : Option Counter) (reaction : handlers.Reaction) (field : Counter) → b ≡ true → new ≡ record n { core = new.core } → IsFull full n.core field new.core
-    → (node_result : NodeResult) × (sent_node_result n b full reaction ≡ Some node_result) × (node_result.full ≡ Some field) × (new ≡ n)
-sent_full n new b full reaction field may others t = (_, ap (λ (c : Bool). sent_node_result n c full reaction) may, t.overfull, others ∙ (λ i. record n { core = t.same i }))
+    → (act_result : ActResult) × (sent_result n b full reaction ≡ Some act_result) × (act_result.full ≡ Some field) × (new ≡ n)
+sent_full n new b full reaction field may others t = (_, ap (λ (c : Bool). sent_result n c full reaction) may, t.overfull, others ∙ (λ i. record n { core = t.same i }))
 
 pub no_refusal : (mesh : Nodes) (n new : NodeSeen) (from : ℕ) (why : WireError) → AllByRecursion (IsReadableItem mesh) n.items → (bytes : List ℕ) × (refusal bytes ≡ Some why) × IsDropped n from bytes new → ⊥
 no_refusal mesh n new from why all d = none-some why (sym ((subst (AllByRecursion (IsReadableItem mesh)) (d.2).was all).0).allowed ∙ d.1)

@@ -28,7 +28,7 @@ use Rattle.mesh_world.specs.Noted.{ready_with, with_turn, with_or_without, has_i
 use Rattle.mesh_world.proofs.ReadySets.{least_found, node_here, node_there, waits_in, at_it, at_other, follows}
 use Rattle.mesh_world.proofs.Frames.{Ends, set_again, set_got}
 use Rattle.mesh_world.proofs.Reactions.{Sends}
-use Rattle.mesh_world.proofs.Acts.{kept_node, act_done, taken_node_result}
+use Rattle.mesh_world.proofs.Acts.{kept_node, act_done, taken_act_result}
 use Rattle.mesh_world.specs.Acts as acts
 use Rattle.mesh_world.proofs.Arrivals.{Joined, Seen, deliver_done, may_hear, noted_joined}
 
@@ -120,5 +120,5 @@ pub taken : (mesh : Nodes) (nodes : List NodeSeen) (radio radio' : RadioState) (
     → Ends (Turn to) mesh (slice_set nodes to h) radio steps (Ok (done.Taken d.took d.effect air)) (slice_set nodes to new) radio' ready' (steps + 1) out
 taken mesh nodes radio radio' ready ready' steps to near h new d out air k few l there linked sound t sends noted_is =
     subst (λ (ns : List NodeSeen). Ends (Turn to) mesh (slice_set nodes to h) radio steps (Ok (done.Taken d.took d.effect air)) ns radio' ready' (steps + 1) out) (set_again nodes to h new)
-    (act_done mesh (slice_set nodes to h) radio radio' (with_turn ready to) ready' steps to near h new acts.Turn (Some d.took) d.effect out air k few l tt (set_got nodes to h there) linked sound (taken_node_result mesh near h new d out t) sends
+    (act_done mesh (slice_set nodes to h) radio radio' (with_turn ready to) ready' steps to near h new acts.Turn (Some d.took) d.effect out air k few l tt (set_got nodes to h there) linked sound (taken_act_result mesh near h new d out t) sends
     (noted_is ∙ noted_again ready to new (length mesh)))

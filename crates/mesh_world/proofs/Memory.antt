@@ -16,7 +16,7 @@ use Rattle.mesh_radio.specs.declared.copies.Held.{Held}
 use Rattle.mesh_meaning.specs.Packets.{copy_in}
 use Rattle.mesh_world.specs.Seen.{node_in}
 use Rattle.mesh_world.specs.Kept.{Ready, IsKept, world_in}
-use Rattle.mesh_world.specs.Acts.{Act, Turn, Send, Ask, NodeResult, node_result_of, event_at}
+use Rattle.mesh_world.specs.Acts.{Act, Turn, Send, Ask, ActResult, act_result_of, event_at}
 use Rattle.mesh_world.specs.Parts.{AreKept, IsDoneTo, seen_in}
 use Rattle.mesh_world.specs.Steps.{is_idle, may_need_memory}
 use Rattle.mesh_world.specs.declared.parts.Parts.{Parts}
@@ -31,7 +31,7 @@ abbrev pub is_busy : Outcome → Bool
 is_busy o = not (is_idle o)
 
 -- what comes of an act isn't idle
-busy_with : (mesh : Nodes) (w : World) (x : ℕ) (o : Option NodeResult) → is_busy (outcome_of mesh w x o) ≡ is_some o
+busy_with : (mesh : Nodes) (w : World) (x : ℕ) (o : Option ActResult) → is_busy (outcome_of mesh w x o) ≡ is_some o
 busy_with mesh w x None = refl
 busy_with mesh w x (Some d) = unless d.full
   where
@@ -53,9 +53,9 @@ needs_give mesh nodes radio x d b l =
     sym (ap is_busy (give_at (world_in mesh nodes radio) x d b (node_in mesh n.0) (shown_at mesh nodes radio x n.0 n.1)))
 
 pub busy_act : (mesh : Nodes) (nodes : List NodeSeen) (radio : RadioState) (x : ℕ) (n : NodeSeen) (act : Act) → slice_get nodes x ≡ Some n
-    → is_some (node_result_of mesh (range (world_in mesh nodes radio) x) n act) ≡ is_busy (step (world_in mesh nodes radio) (event_at x act))
+    → is_some (act_result_of mesh (range (world_in mesh nodes radio) x) n act) ≡ is_busy (step (world_in mesh nodes radio) (event_at x act))
 busy_act mesh nodes radio x n act at =
-    sym (ap is_busy (act_at mesh nodes radio x n (range (world_in mesh nodes radio) x) act at refl) ∙ busy_with mesh (world_in mesh nodes radio) x (node_result_of mesh (range (world_in mesh nodes radio) x) n act))
+    sym (ap is_busy (act_at mesh nodes radio x n (range (world_in mesh nodes radio) x) act at refl) ∙ busy_with mesh (world_in mesh nodes radio) x (act_result_of mesh (range (world_in mesh nodes radio) x) n act))
 
 pub needs_act : (w : World) (x : ℕ) (act : Act) → is_busy (step w (event_at x act)) ≡ may_need_memory w (event_at x act)
 needs_act w x Turn = refl
@@ -65,12 +65,12 @@ needs_act w x (Ask d) = refl
 -- the same, with rooms made in the radio, by the nodes that are in range then
 pub short_act : (mesh : Nodes) (nodes : List NodeSeen) (old radio : RadioState) (ready : Ready) (steps x : ℕ) (near : NodeIds) (n : NodeSeen) (act : Act)
     → IsKept mesh nodes old ready steps → radio ≡ record old { room = radio.room; most = radio.most } → slice_get nodes x ≡ Some n → near ≡ linked_below radio.links x radio.size
-    → is_some (node_result_of mesh near n act) ≡ true → may_need_memory (world_in mesh nodes old) (event_at x act) ≡ true
+    → is_some (act_result_of mesh near n act) ≡ true → may_need_memory (world_in mesh nodes old) (event_at x act) ≡ true
 short_act mesh nodes old radio ready steps x near n act k rooms at linked enabled =
     sym (needs_act (world_in mesh nodes old) x act)
     ∙ ap (λ (w : World). is_busy (step w (event_at x act))) (sym (roomed_shown mesh nodes old radio rooms))
     ∙ sym (busy_act mesh nodes radio x n act at)
-    ∙ ap (λ (r : NodeIds). is_some (node_result_of mesh r n act)) (sym (near_is mesh nodes radio ready steps x near (roomed mesh nodes old radio ready steps rooms k) linked))
+    ∙ ap (λ (r : NodeIds). is_some (act_result_of mesh r n act)) (sym (near_is mesh nodes radio ready steps x near (roomed mesh nodes old radio ready steps rooms k) linked))
     ∙ enabled
 
 -- whether there is a copy is told by its receiver, and by what is seen of it

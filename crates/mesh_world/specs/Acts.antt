@@ -1,4 +1,4 @@
--- What a node does by itself, and what comes of it. No public contract cites this file.
+-- What a node does of its own accord, and what comes of it. No public contract cites this file.
 use Rattle.std.specs.Prelude.{◌≡◌, ◌<◌, ℕ, Bool, true, if◌then◌else◌, is_some, Option, Some, None, Result, Ok, Err, List, [], ◌∷◌, ⊤}
 use Rattle.mesh_base.specs.Members.{NodeIds}
 use Rattle.mesh_base.specs.Meshes.{Nodes}
@@ -39,17 +39,18 @@ IsFor size Turn = ⊤
 IsFor size (Send d) = d < size
 IsFor size (Ask d) = d < size
 
--- what comes of an act, unless it would overfill the field `full`: the node reacts, and these items
--- are left in its inbox; and what was taken from there
-pub record NodeResult : Type 0 where
+-- what comes of an act. If `full` names a counter, the act would raise that past its greatest value,
+-- and isn't done; otherwise the node reacts so, `left` stays in its inbox, and `took` was taken from
+-- there
+pub record ActResult : Type 0 where
   pub full : Option Counter
   pub reaction : Reaction
   pub left : List items.Item
   pub took : Option Took
 
-abbrev pub turn_node_result : Nodes → NodeIds → Core → List items.Item → Option NodeResult
-turn_node_result mesh range core [] = None
-turn_node_result mesh range core (front ∷ rest) =
+abbrev pub turn_result : Nodes → NodeIds → Core → List items.Item → Option ActResult
+turn_result mesh range core [] = None
+turn_result mesh range core (front ∷ rest) =
     let item = item_in mesh front in
     Some (record {
       full = turn_full core range item;
@@ -59,46 +60,46 @@ turn_node_result mesh range core (front ∷ rest) =
     })
 
 -- nothing is taken from the inbox
-abbrev pub sent_node_result : NodeSeen → Bool → Option Counter → Reaction → Option NodeResult
-sent_node_result n may full reaction =
+abbrev pub sent_result : NodeSeen → Bool → Option Counter → Reaction → Option ActResult
+sent_result n may full reaction =
     if may
     then Some (record { full = full; reaction = reaction; left = n.items; took = None })
     else None
 
 -- what comes of an act of the node `n`, with the nodes of `range` in range; None if it isn't
 -- enabled
-abbrev pub node_result_of : Nodes → NodeIds → NodeSeen → Act → Option NodeResult
-node_result_of mesh range n Turn = turn_node_result mesh range n.core n.items
-node_result_of mesh range n (Send d) =
-    sent_node_result n (may_send n.core d) (send_full n.core range d) (send n.core range d)
-node_result_of mesh range n (Ask d) =
-    sent_node_result n (may_ask n.core d) (ask_full n.core) (ask n.core d)
+abbrev pub act_result_of : Nodes → NodeIds → NodeSeen → Act → Option ActResult
+act_result_of mesh range n Turn = turn_result mesh range n.core n.items
+act_result_of mesh range n (Send d) =
+    sent_result n (may_send n.core d) (send_full n.core range d) (send n.core range d)
+act_result_of mesh range n (Ask d) =
+    sent_result n (may_ask n.core d) (ask_full n.core) (ask n.core d)
 
 -- ---- what the code did
 
--- the node did it: `took` was taken, and this is its effect besides
-pub record IsNodeResult (mesh : Nodes) (range : NodeIds) (act : Act) (old : NodeSeen)
+-- the node acted: `took` is what it took, and `effect` what it did besides
+pub record IsActResult (mesh : Nodes) (range : NodeIds) (act : Act) (old : NodeSeen)
     (took : Option Took) (effect : Effect) (new : NodeSeen) (out : List ℕ) : Type 0 where
-  pub node_result : NodeResult
-  pub is : node_result_of mesh range old act ≡ Some node_result
-  pub made : IsMade mesh node_result.full node_result.reaction effect new.core out
-  pub left : new.items ≡ node_result.left
-  pub taken : took ≡ node_result.took
+  pub act_result : ActResult
+  pub is : act_result_of mesh range old act ≡ Some act_result
+  pub made : IsMade mesh act_result.full act_result.reaction effect new.core out
+  pub left : new.items ≡ act_result.left
+  pub taken : took ≡ act_result.took
   pub size : new.size ≡ old.size
 
--- an act of the node `old`: its answer, from which `took` tells what was taken, the node after it,
--- and the packet that is cast
+-- an act of the node `old`: its answer (`took` gives what was taken), the node after it, and the
+-- packet that is cast
 abbrev pub IsActed : {T : Type 0} → (T → Option Took) → Nodes → NodeIds → Act → NodeSeen
     → Result (T × Effect) Unacted → NodeSeen → List ℕ → Type 0
 IsActed took mesh range act old (Ok p) new out =
-    IsNodeResult mesh range act old (took p.0) p.1 new out
+    IsActResult mesh range act old (took p.0) p.1 new out
 IsActed took mesh range act old (Err refused.Idle) new out =
-    (node_result_of mesh range old act ≡ None) × (new ≡ old)
+    (act_result_of mesh range old act ≡ None) × (new ≡ old)
 IsActed took mesh range act old (Err (refused.Full field)) new out =
-    (node_result : NodeResult) × (node_result_of mesh range old act ≡ Some node_result)
-    × (node_result.full ≡ Some field) × (new ≡ old)
+    (act_result : ActResult) × (act_result_of mesh range old act ≡ Some act_result)
+    × (act_result.full ≡ Some field) × (new ≡ old)
 IsActed took mesh range act old (Err refused.NoMemory) new out =
-    (is_some (node_result_of mesh range old act) ≡ true) × (new ≡ old)
+    (is_some (act_result_of mesh range old act) ≡ true) × (new ≡ old)
 
 -- what is answered of an act
 abbrev pub done_of : Option Took → Effect → Air → Done

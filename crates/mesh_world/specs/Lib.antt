@@ -14,7 +14,7 @@ pub mod AtOnce
 pub mod Kept
 -- Noted: how the kept sets follow the nodes. No public contract cites it.
 pub mod Noted
--- Acts: what a node does by itself, and what comes of it. No public contract cites it.
+-- Acts: what a node does of its own accord, and what comes of it. No public contract cites it.
 pub mod Acts
 -- Parts: the parts of a world, and an event as it is done to them. No public contract cites it.
 pub mod Parts

@@ -1,4 +1,4 @@
-//! What a node does by itself: it takes a turn, sends or asks.
+//! What a node does of its own accord: it takes a turn, sends or asks.
 ghost use Rattle.std.specs.Prelude.{◌≡◌, ℕ, length, is_some, Option, Some, None};
 ghost use Rattle.std.specs.List.{AllByRecursion};
 ghost use Rattle.mesh_base.specs.Members.{NodeIds};
@@ -6,7 +6,7 @@ ghost use Rattle.mesh_base.specs.Meshes.{Nodes};
 ghost use Rattle.mesh_base.specs.declared.events.Took.{Took as TookSeen};
 ghost use Rattle.aodv_node.specs.Turned.{IsReadableItem};
 ghost use Rattle.mesh_world.specs.Acts as acts;
-ghost use Rattle.mesh_world.specs.Acts.{Act, IsFor, IsActed, node_result_of, done_of};
+ghost use Rattle.mesh_world.specs.Acts.{Act, IsFor, IsActed, act_result_of, done_of};
 
 use aodv_node::{AskError, Node, SendError, TurnDone, TurnError};
 use mesh_base::{Air, Counter, Done, Effect, Mesh, NodeSet, Packet, Took};
@@ -24,7 +24,7 @@ pub(crate) enum Unacted {
 /// What was taken, and what the node did besides.
 pub(crate) type Acted<T> = Result<(T, Effect), Unacted>;
 
-/// What a node does by itself.
+/// What a node does of its own accord.
 pub(crate) trait Acts: Copy {
     /// What is taken from the inbox.
     type Taken: Drop;
@@ -56,7 +56,7 @@ pub(crate) trait Acts: Copy {
     /// Whether the act is enabled. This is asked only after memory was short.
     fn is_enabled(self, node: &Node) -> bool
         ensures { (mesh : Nodes) (range : NodeIds) →
-            result ≡ is_some (node_result_of mesh range node.now (act self)) };
+            result ≡ is_some (act_result_of mesh range node.now (act self)) };
 }
 
 /// The node takes the front of its inbox.

@@ -1,11 +1,11 @@
-use Rattle.mesh_world.proofs.Acts.{taken_node_result, full_node_result, no_refusal, no_stranger}
+use Rattle.mesh_world.proofs.Acts.{taken_act_result, full_act_result, no_refusal, no_stranger}
 use Rattle.mesh_world.proofs.act.TurnActs.of.Goals as goal
 
 pub returns-in-Ok : goal.returns-in-Ok
-returns-in-Ok c = taken_node_result _ _ _ _ _ _ (rw c.in-Ok.field-0-is at c.in-Ok.ensures.turn)
+returns-in-Ok c = taken_act_result _ _ _ _ _ _ (rw c.in-Ok.field-0-is at c.in-Ok.ensures.turn)
 
 pub returns-in-Err-Full : goal.returns-in-Err-Full
-returns-in-Err-Full c = full_node_result _ _ _ _ _ (rw c.in-Err-Full.field-0-is at c.in-Err-Full.ensures.turn)
+returns-in-Err-Full c = full_act_result _ _ _ _ _ (rw c.in-Err-Full.field-0-is at c.in-Err-Full.ensures.turn)
 
 pub unreachable-requires : goal.unreachable-requires
 unreachable-requires c =
