@@ -1,6 +1,6 @@
 -- After the lines of any input the state is plain: its messages are what their packets mean.
-use Rattle.std.proofs.Common.{◌≡◌, ℕ, zero, suc, ◌+◌, ◌^◌, ◌<◌, ◌≤◌, ◌⊎◌, inl, inr, true, false, List, [], ◌∷◌, length, get_or, take, Option, Some, None, is_some, refl, sym, ap, subst, ◌∙◌, arith}
-use Rattle.std.specs.Prelude.{slice_get, ⊤}
+use Rattle.std.proofs.Common.{◌≡◌, ℕ, zero, suc, ◌+◌, ◌<◌, ◌≤◌, inl, inr, true, List, [], ◌∷◌, length, get_or, take, Option, Some, None, is_some, refl, sym, subst, ◌∙◌, arith}
+use Rattle.std.specs.Prelude.{⊤}
 use Rattle.std.specs.Option.{unwrap_or}
 use Rattle.std.specs.List.{AllByRecursion}
 use Rattle.std.proofs.lemmas.List.{length-map, get_or_default}
@@ -14,7 +14,7 @@ use Rattle.aodv_model.specs.Soundness.{IsMessageInMesh, IsItemInMesh}
 use Rattle.aodv_model.specs.Handlers.{key_of}
 use Rattle.aodv_model.specs.Fullness.{greatest}
 use Rattle.aodv_model.proofs.Numbers.{IsMessageWithin, IsItemWithin}
-use Rattle.mesh_model.specs.Worlds.{World, Node, Copy, Event, after, step, run, start, first_numbers}
+use Rattle.mesh_model.specs.Worlds.{World, Copy, Event, after, step, run, start, first_numbers}
 use Rattle.mesh_model.specs.InMesh.{IsEvent, IsCopyInMesh}
 use Rattle.mesh_model.specs.Invariants.{IsInvariant}
 use Rattle.mesh_model.proofs.Lists.{each_map, each_of}
@@ -25,7 +25,7 @@ use Rattle.mesh_model.proofs.NumberSteps.{IsCopyWithin, run_within, start_within
 use Rattle.mesh_model.proofs.Steps.{start_kept}
 use Rattle.mesh_shell.specs.Fold as shell
 use Rattle.mesh_shell.specs.Pieces.{Piece, Whole, Long, Beyond}
-use Rattle.mesh_text.specs.Schedule.{RunState, opening, line_of, world_of}
+use Rattle.mesh_text.specs.Schedule.{RunState, opening, line_of}
 use Rattle.mesh_text.specs.Text.{LineOutcome, On, Refused, Full, outcome_of_piece, RunText, goes_on, text_from, text_of_input}
 use Rattle.mesh_text.specs.Runs.{events_of_piece, events_of_input}
 use Rattle.mesh_text.proofs.InRange.{line_allowed}
