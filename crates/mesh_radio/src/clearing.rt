@@ -8,8 +8,8 @@ use crate::casts::{Cast, Casts};
 use crate::shared::Shared;
 
 /// Fewer casts without a copy in flight than this are left where they are: to sweep them would cost
-/// more than the memory that they take up.
-const LYING: usize = 64;
+/// more than the 32 KB of memory that they take up.
+const LYING: usize = 256;
 
 // Whether no copy of the cast at this index flies.
 fn is_done(casts: &Casts, index: usize) -> bool
