@@ -1,7 +1,7 @@
 -- The numbers that calls answer, and those in an outcome.
 use Rattle.std.specs.Prelude.{◌==◌, ℕ, if◌then◌else◌, Option, Some, None, Result, Ok, Err}
-use Rattle.mesh_base.specs.declared.events.Counter.{Counter}
-use Rattle.mesh_base.specs.declared.events.Counter.TheVariants as counters
+use Rattle.mesh_base.specs.declared.events.Full.{Full as Counter}
+use Rattle.mesh_base.specs.declared.events.Full.TheVariants as counters
 use Rattle.mesh_base.specs.declared.events.Kind.{Kind}
 use Rattle.mesh_base.specs.declared.events.Kind.TheVariants as kinds
 use Rattle.mesh_base.specs.declared.events.Variant.{Variant}
@@ -56,7 +56,7 @@ give_code gives.NoMemory = NO_MEMORY
 
 abbrev pub turn_code : TurnError → ℕ
 turn_code turns.Idle = IDLE
-turn_code (turns.Malformed from why) = MALFORMED
+turn_code (turns.Refused from why) = MALFORMED
 turn_code (turns.Stranger from who) = NAMES_STRANGER
 turn_code (turns.Full field) = full_code field
 turn_code turns.NoMemory = NO_MEMORY

@@ -3,7 +3,7 @@ ghost use Rattle.std.specs.Prelude.{◌≡◌};
 ghost use Rattle.aodv_c.specs.Codes.{full_code, new_code, hear_code, give_code, turn_code, send_code, ask_code, code_of, took_code, from_of, dest_of, cast_code, variant_of};
 
 use aodv_router::{AskError, Casting, GiveError, HearError, NewError, SendError, Taken, TurnError};
-use mesh_base::{Counter, Kind, Variant};
+use mesh_base::{Full, Kind, Variant};
 
 /// The version of this interface: it changes whenever a call, a struct or a number does.
 pub const VERSION: u32 = 1;
@@ -106,13 +106,13 @@ pub const CAST_ALL: u32 = 3;
 
 // ---- numbers of refusals
 
-fn full_code(field: Counter) -> u32
+fn full_code(field: Full) -> u32
     ensures { result ≡ full_code field }
 {
     match field {
-        Counter::Hops => FULL_HOPS,
-        Counter::Number => FULL_NUMBER,
-        Counter::Id => FULL_ID,
+        Full::Hops => FULL_HOPS,
+        Full::Number => FULL_NUMBER,
+        Full::Id => FULL_ID,
     }
 }
 
@@ -155,7 +155,7 @@ pub(crate) fn turn_code(why: &TurnError) -> u32
 {
     match why {
         TurnError::Idle => IDLE,
-        TurnError::Malformed { .. } => MALFORMED,
+        TurnError::Refused { .. } => MALFORMED,
         TurnError::Stranger { .. } => NAMES_STRANGER,
         TurnError::Full(field) => full_code(*field),
         TurnError::NoMemory => NO_MEMORY,

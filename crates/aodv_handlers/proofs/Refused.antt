@@ -12,10 +12,10 @@ use Rattle.mesh_base.specs.declared.addr.Addr.{Addr}
 use Rattle.mesh_base.specs.declared.events.Variant.{Variant}
 use Rattle.mesh_base.specs.Meshes.{Nodes}
 use Rattle.aodv_model.specs.declared.entry.Entry.{Entry}
-use Rattle.aodv_model.specs.Tables.{Table, Dests, goes_by, sqn, accepted_unreachable, invalidate, invalidated}
+use Rattle.aodv_model.specs.Tables.{Table, Dests, dests_of, goes_by, sqn, accepted_unreachable, invalidate, invalidated}
 use Rattle.aodv_model.specs.Cores.{Core, Store, Waiting, Rerr, set}
 use Rattle.aodv_model.specs.Handlers.{Nothing, Many, All, casting, plain, is_empty, is_error, all_precs, precs_of, with_precs, error_cast, retract}
-use Rattle.aodv_model.proofs.Lookups.{get-accepted, get-invalidate}
+use Rattle.aodv_model.proofs.Lookups.{contains-dests_of, get-accepted, get-invalidate}
 use Rattle.aodv_model.proofs.Stores.{need_if, get-set}
 use Rattle.aodv_meaning.specs.Meaning.{index, pair_by_index, dests_in}
 use Rattle.aodv_handlers.proofs.Lists.{empty_is}
@@ -86,8 +86,11 @@ waiting_kept (Some s) = ap (λ (b : Bool). Some (record s { needs_request = b })
     or_false true = refl
     or_false false = refl
 
-store_kept : (store : Store) → set store maps.empty ≡ store
-store_kept store = maps.same_map nat_cmp_total nat_cmp-IsAntisymmetric _ store (λ q. get-set store maps.empty q ∙ ap (λ (n : Option ℕ). option_map (need_if (is_some n)) (maps.get store q)) (maps.get-empty nat_cmp q) ∙ waiting_kept (maps.get store q))
+store_kept : (store : Store) → set store (dests_of (maps.empty {X = ℕ} {R = nat_cmp})) ≡ store
+store_kept store = maps.same_map nat_cmp_total nat_cmp-IsAntisymmetric _ store (λ q. get-set store (dests_of none) q ∙ ap (λ (b : Bool). option_map (need_if b) (maps.get store q)) (contains-dests_of none q ∙ ap (λ (n : Option ℕ). is_some n) (maps.get-empty nat_cmp q)) ∙ waiting_kept (maps.get store q))
+  where
+    none : Dests
+    none = maps.empty
 
 nothing_cast : (v : Variant) (rt : Table) → error_cast v rt maps.empty ≡ Nothing
 unfolding error_cast precs_of

@@ -3,7 +3,7 @@ use Rattle.std.proofs.Common.{◌≡◌, ℕ, ◌+◌, Bool, true, false, not, O
 use Rattle.std.specs.FinMap as maps
 use Rattle.std.specs.Prelude.{◌==◌, ◌↔◌}
 use Rattle.mesh_base.specs.declared.events.Effect as code
-use Rattle.mesh_base.specs.declared.events.Counter.{Counter}
+use Rattle.mesh_base.specs.declared.events.Full.{Full as Counter}
 use Rattle.mesh_base.specs.declared.events.Variant.{Variant}
 use Rattle.mesh_base.specs.declared.events.Variant.TheVariants as variant
 use Rattle.mesh_base.specs.Members.{NodeIds}

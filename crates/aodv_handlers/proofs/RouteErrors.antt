@@ -1,7 +1,10 @@
 -- Route errors: who is told, and of what.
-use Rattle.std.proofs.Common.{◌≡◌, ℕ, zero, suc, ◌+◌, ◌<◌, ◌≤◌, Bool, true, false, not, cond, ◌↔◌, IsTrue, eq-eqb, Some, List, [], ◌∷◌, ◌++◌, length, map, refl, sym, ap, subst, ◌∙◌, append_assoc, length-append, arith}
+use Rattle.std.proofs.Common.{◌≡◌, ℕ, zero, suc, ◌+◌, ◌<◌, ◌≤◌, Bool, true, false, not, cond, ◌||◌, ◌↔◌, IsTrue, eq-eqb, Some, List, [], ◌∷◌, ◌++◌, length, map, refl, sym, ap, subst, ◌∙◌, append_assoc, length-append, arith}
 use Rattle.std.specs.Prelude.{◌==◌, slice_get}
-use Rattle.std.specs.Ordering.{nat_cmp}
+use Rattle.std.specs.Ordering.{nat_cmp, eq_by_cmp}
+use Rattle.std.specs.Cmp.{nat_cmp_total}
+use Rattle.std.specs.List.{list_any}
+use Rattle.std.specs.FinMap.{nat_cmp-IsAntisymmetric}
 use Rattle.std.specs.FinMap as maps
 use Rattle.std.specs.FinMap.Entries.{where_key}
 use Rattle.std.specs.FinSet as sets
@@ -12,7 +15,7 @@ use Rattle.mesh_base.specs.declared.events.Variant.{Variant}
 use Rattle.mesh_base.specs.declared.events.Variant.TheVariants.{Base, Number, Reply, Error}
 use Rattle.mesh_base.specs.Members.{NodeIds}
 use Rattle.mesh_base.specs.Meshes.{Nodes, IsMesh}
-use Rattle.aodv_model.specs.Tables.{Table, Dests, precs}
+use Rattle.aodv_model.specs.Tables.{Table, Dests, dests_of, precs}
 use Rattle.aodv_model.specs.Cores.{Rerr}
 use Rattle.aodv_model.specs.Handlers.{Nothing, All, is_empty, is_error, all_precs, precs_of, with_precs, error_cast}
 use Rattle.aodv_model.specs.Soundness.{AreDestsBelow}
@@ -64,6 +67,47 @@ joined_all rt dests k all has end =
     sym (union_empty all)
     ∙ ap (λ es. sets.union all (all_precs rt (map (λ e. e.0) es))) (sym (from_end (maps.entries dests) k end))
     ∙ has.whole
+
+-- ---- the destinations alone
+
+-- all of them are those that were found before index k, and those from there on
+pub record HasFound (dests : Dests) (k : ℕ) (found : NodeIds) : Type 0 where
+  pub whole : (q : ℕ) → (sets.contains found q || list_any (eq_by_cmp nat_cmp q) (map (λ e. e.0) (drop k (maps.entries dests)))) ≡ sets.contains (dests_of dests) q
+
+pub found_none : (dests : Dests) (found : NodeIds) → found ≡ sets.empty → HasFound dests 0 found
+found_none dests found is = record {
+  whole = λ q.
+      ap (λ (b : Bool). b || list_any (eq_by_cmp nat_cmp q) (maps.keys dests)) (ap (λ (s : NodeIds). sets.contains s q) is ∙ sets.contains-empty nat_cmp q)
+      ∙ sym (sets.contains-from_list nat_cmp_total (maps.keys dests) q);
+}
+
+pub found_more : (dests : Dests) (k : ℕ) (found found' : NodeIds) (p : ℕ × ℕ) → HasFound dests k found → slice_get (maps.entries dests) k ≡ Some p → found' ≡ sets.insert found p.0 → HasFound dests (k + 1) found'
+found_more dests k found found' p has is next =
+    let up : suc k ≡ k + 1 = omega arith in
+    let named : ℕ → List (ℕ × ℕ) → Bool = λ q es. list_any (eq_by_cmp nat_cmp q) (map (λ e. e.0) es) in
+    record {
+      whole = λ q.
+          ap (λ (b : Bool). b || named q (drop (k + 1) (maps.entries dests))) (ap (λ (s : NodeIds). sets.contains s q) next ∙ sets.contains-insert nat_cmp_total found p.0 q)
+          ∙ moved (eq_by_cmp nat_cmp q p.0) (sets.contains found q) (named q (drop (k + 1) (maps.entries dests)))
+          ∙ ap (λ (n : ℕ). sets.contains found q || (eq_by_cmp nat_cmp q p.0 || named q (drop n (maps.entries dests)))) (sym up)
+          ∙ ap (λ (es : List (ℕ × ℕ)). sets.contains found q || named q es) (sym (from_index (maps.entries dests) k p is))
+          ∙ has.whole q;
+    }
+  where
+    moved : (a b c : Bool) → ((a || b) || c) ≡ (b || (a || c))
+    moved true true c = refl
+    moved true false c = refl
+    moved false b c = refl
+
+pub found_all : (dests : Dests) (k : ℕ) (found : NodeIds) → HasFound dests k found → length (maps.entries dests) ≤ k → found ≡ dests_of dests
+found_all dests k found has end = sets.same_set nat_cmp_total nat_cmp-IsAntisymmetric found (dests_of dests) (λ q.
+    or_none (sets.contains found q)
+    ∙ ap (λ (es : List (ℕ × ℕ)). sets.contains found q || list_any (eq_by_cmp nat_cmp q) (map (λ e. e.0) es)) (sym (from_end (maps.entries dests) k end))
+    ∙ has.whole q)
+  where
+    or_none : (b : Bool) → b ≡ (b || false)
+    or_none true = refl
+    or_none false = refl
 
 -- ---- of what
 

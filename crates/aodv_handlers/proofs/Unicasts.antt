@@ -8,7 +8,7 @@ use Rattle.mesh_base.specs.declared.addr.Addr.{Addr}
 use Rattle.mesh_base.specs.declared.events.Effect as code
 use Rattle.mesh_base.specs.declared.events.Cast as cast
 use Rattle.mesh_base.specs.declared.events.Cast.TheVariants.{One as to_one}
-use Rattle.mesh_base.specs.declared.events.Counter.TheVariants.{Number}
+use Rattle.mesh_base.specs.declared.events.Full.TheVariants.{Number}
 use Rattle.mesh_base.specs.Members.{NodeIds}
 use Rattle.mesh_base.specs.Meshes.{Nodes, addr_at}
 use Rattle.aodv_model.specs.Quality.{is_kno}

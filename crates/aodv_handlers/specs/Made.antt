@@ -2,8 +2,8 @@
 use Rattle.std.specs.Prelude.{◌≡◌, ℕ, false, if◌then◌else◌, Option, Some, None, Result, Ok, Err, List}
 use Rattle.mesh_base.specs.declared.events.Effect as effects
 use Rattle.mesh_base.specs.declared.events.Cast as cast
-use Rattle.mesh_base.specs.declared.events.Counter.{Counter}
-use Rattle.mesh_base.specs.declared.events.Counter.TheVariants.{Number}
+use Rattle.mesh_base.specs.declared.events.Full.{Full as Counter}
+use Rattle.mesh_base.specs.declared.events.Full.TheVariants.{Number}
 use Rattle.mesh_base.specs.Meshes.{Nodes}
 use Rattle.mesh_base.specs.Members.{NodeIds}
 use Rattle.aodv_model.specs.Tables.{Table}

@@ -22,7 +22,7 @@ use crate::unicast::send_datum;
 use aodv_model::{Entry, Flag};
 use aodv_table::Table;
 use aodv_wire::{DataView, write_rerr};
-use mesh_base::{Bytes, Cast, Counter, Effect, Mesh, NodeSet, Packet, Variant};
+use mesh_base::{Bytes, Cast, Effect, Full, Mesh, NodeSet, Packet, Variant};
 
 /// Takes a datum given to the node. If it is for the node itself, it is returned to be delivered;
 /// otherwise it waits.
@@ -91,7 +91,7 @@ pub fn take_datum<T: Table>(
     range: &NodeSet,
     m: &Datum<'_>,
     out: &mut Packet,
-) -> Result<Effect, Counter>
+) -> Result<Effect, Full>
     requires order { IsInOrder T.nodes T.entries (length mesh.now) core.old }
     requires says { IsMessageInMesh (length mesh.now) (parcel_of m.now) }
     ensures does { let dip = m.now.dip in let oip = m.now.oip in
@@ -132,7 +132,7 @@ pub fn on_data<T: Table>(
     range: &NodeSet,
     m: &DataView<'_>,
     out: &mut Packet,
-) -> Result<Effect, Counter>
+) -> Result<Effect, Full>
     requires order { IsInOrder T.nodes T.entries (length mesh.now) core.old }
     requires known { stranger mesh.now (a_parcel m.now) ≡ None }
     requires datum { IsDatum m.now.body }

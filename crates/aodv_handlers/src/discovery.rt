@@ -15,7 +15,7 @@ use crate::unicast::{casting, fail};
 use aodv_model::{Known, inc};
 use aodv_table::Table;
 use aodv_wire::{Rreq, write_data, write_rreq};
-use mesh_base::{Cast, Counter, Effect, Mesh, NodeSet, Packet, Variant};
+use mesh_base::{Cast, Effect, Full, Mesh, NodeSet, Packet, Variant};
 
 /// Whether a datum waits for `dest` and there is a valid route to it.
 pub fn may_send<T: Table>(core: &Core<T>, dest: usize) -> bool
@@ -42,7 +42,7 @@ pub fn send_stored<T: Table>(
     range: &NodeSet,
     dest: usize,
     out: &mut Packet,
-) -> Result<Effect, Counter>
+) -> Result<Effect, Full>
     requires order { IsInOrder T.nodes T.entries (length mesh.now) core.old }
     requires dest { dest < length mesh.now }
     requires may { can_send (core_of T.entries core.old) dest ≡ true }
@@ -90,7 +90,7 @@ fn request_id<T: Table>(core: &Core<T>, sn: u32) -> Option<u32>
 
 /// The node's own number and the id of its next request, or the counter that this request would
 /// raise past its field's greatest value.
-pub fn next_request<T: Table>(core: &Core<T>) -> Result<(u32, u32), Counter>
+pub fn next_request<T: Table>(core: &Core<T>) -> Result<(u32, u32), Full>
     requires { core.now.me < length core.now.asked.rooms }
     ensures free { IfOk result (λ p. ask_full (core_of T.entries core.now) ≡ None) }
     ensures full { IfErr result (λ field. ask_full (core_of T.entries core.now) ≡ Some field) }
@@ -99,11 +99,11 @@ pub fn next_request<T: Table>(core: &Core<T>) -> Result<(u32, u32), Counter>
         IfOk result (λ p. p.1 ≡ fresh_id c.variant c) }
 {
     let Some(sn) = inc(core.sn) else {
-        return Err(Counter::Number);
+        return Err(Full::Number);
     };
     match request_id(core, sn) {
         Some(id) => Ok((sn, id)),
-        None => Err(Counter::Id),
+        None => Err(Full::Id),
     }
 }
 
@@ -115,7 +115,7 @@ pub fn start_request<T: Table>(
     mesh: &Mesh,
     dest: usize,
     out: &mut Packet,
-) -> Result<Effect, Counter>
+) -> Result<Effect, Full>
     requires order { IsInOrder T.nodes T.entries (length mesh.now) core.old }
     requires dest { dest < length mesh.now }
     requires may { can_ask (core_of T.entries core.old) dest ≡ true }

@@ -1,7 +1,7 @@
 //! Route errors, and broken links (RFC 3561, section 6.11).
 ghost use Rattle.std.specs.Prelude.{◌≡◌, ◌<◌, ◌≤◌, length};
 ghost use Rattle.std.specs.FinMap as maps;
-ghost use Rattle.aodv_model.specs.Tables.{precs};
+ghost use Rattle.aodv_model.specs.Tables.{dests_of, precs};
 ghost use Rattle.aodv_model.specs.Cores.{Rerr};
 ghost use Rattle.aodv_model.specs.Handlers.{is_empty as no_node, is_error, precs_of, error_cast as the_error_cast, retract as retracted};
 ghost use Rattle.aodv_model.specs.Soundness.{AreDestsBelow};
@@ -16,7 +16,7 @@ use aodv_model::Dests;
 use aodv_table::Table;
 use aodv_wire::write_rerr;
 use arrayvec::ArrayVec;
-use mesh_base::{Addr, Cast, Counter, MOST_NODES, Mesh, NodeSet, Packet, Variant};
+use mesh_base::{Addr, Cast, Full, MOST_NODES, Mesh, NodeSet, Packet, Variant};
 
 /// The precursors of d.
 pub(crate) fn precursors<T: Table>(table: &T, d: usize) -> NodeSet
@@ -117,6 +117,21 @@ fn error_cast<T: Table>(
     Cast::Many(to)
 }
 
+// The destinations alone. They are nodes of the mesh.
+fn members(mesh: &Mesh, dests: &Dests) -> NodeSet
+    requires { AreDestsBelow (length mesh.now) dests.now }
+    ensures { result ≡ dests_of dests.now }
+{
+    let nodes = mesh.len();
+    let mut found = NodeSet::new();
+    for k in 0..dests.len() {
+        let (d, _) = dests.pair(k);
+        prove!(d < nodes);
+        found.add(d);
+    }
+    found
+}
+
 /// Makes the routes to these destinations invalid: their entries get the numbers stated, data that
 /// wait for them need a request, and a route error is written if it would name a destination.
 #[tactic(auto, unfolding(aodv_model::specs::Handlers::retract))]
@@ -141,7 +156,7 @@ pub(crate) fn retract<T: Table>(
 {
     let cast = error_cast(core.variant, &core.table, mesh, dests, out);
     core.table.invalidate(dests);
-    core.waiting.set_req(dests);
+    core.waiting.set_req(&members(mesh, dests));
     cast
 }
 
@@ -154,7 +169,7 @@ pub fn link_broken<T: Table>(
     mesh: &Mesh,
     next: usize,
     out: &mut Packet,
-) -> Result<Cast, Counter>
+) -> Result<Cast, Full>
     requires order { IsInOrder T.nodes T.entries (length mesh.now) core.old }
     ensures does { Breaks T.entries mesh.now next core.old result core.new out.new.items }
     ensures order { IsInOrder T.nodes T.entries (length mesh.now) core.new }
@@ -164,6 +179,6 @@ pub fn link_broken<T: Table>(
     let mut dests = Dests::new();
     match core.table.dests_via(next, &mut dests) {
         Ok(()) => Ok(retract(core, mesh, &dests, out)),
-        Err(_) => Err(Counter::Number),
+        Err(_) => Err(Full::Number),
     }
 }

@@ -20,7 +20,7 @@ use crate::unicast::{casting, send_reply};
 use aodv_model::Flag;
 use aodv_table::Table;
 use aodv_wire::Rrep;
-use mesh_base::{Cast, Counter, Effect, Mesh, NodeSet, Packet, Variant};
+use mesh_base::{Cast, Effect, Full, Mesh, NodeSet, Packet, Variant};
 
 // This reply goes on towards its originator.
 #[tactic(auto, unfolding(crate::specs::Parts::pass_on))]
@@ -31,7 +31,7 @@ fn pass_on<T: Table>(
     range: &NodeSet,
     m: Reply,
     out: &mut Packet,
-) -> Result<Effect, Counter>
+) -> Result<Effect, Full>
     requires order { IsInOrder T.nodes T.entries (length mesh.now) core.old }
     requires dip { m.dip < length mesh.now }
     requires oip { m.oip < length mesh.now }
@@ -119,7 +119,7 @@ pub fn take_reply<T: Table>(
     from: usize,
     m: &Reply,
     out: &mut Packet,
-) -> Result<Effect, Counter>
+) -> Result<Effect, Full>
     requires order { IsInOrder T.nodes T.entries (length mesh.now) core.old }
     requires says { IsMessageInMesh (length mesh.now) (a_reply (reply_of m.now)) }
     requires from { from < length mesh.now }
@@ -133,7 +133,7 @@ pub fn take_reply<T: Table>(
     ensures asked { core.new.asked ≡ core.old.asked }
 {
     if m.hops == 255 {
-        return Err(Counter::Hops);
+        return Err(Full::Hops);
     }
     let kept_from = core.table.get(from);
     let kept_dip = core.table.get(m.dip);
@@ -161,7 +161,7 @@ pub fn on_rrep<T: Table>(
     from: usize,
     m: &Rrep,
     out: &mut Packet,
-) -> Result<Effect, Counter>
+) -> Result<Effect, Full>
     requires order { IsInOrder T.nodes T.entries (length mesh.now) core.old }
     requires known { stranger mesh.now (a_rrep m.now) ≡ None }
     requires dsn { 1 ≤ m.now.dsn }

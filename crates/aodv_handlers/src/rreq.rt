@@ -17,7 +17,7 @@ use crate::unicast::{casting, send_reply};
 use aodv_model::{Entry, Flag, Known};
 use aodv_table::Table;
 use aodv_wire::{Rreq, write_rreq};
-use mesh_base::{Cast, Counter, Effect, Mesh, NodeSet, Packet, Variant};
+use mesh_base::{Cast, Effect, Full, Mesh, NodeSet, Packet, Variant};
 
 fn larger(a: u32, b: u32) -> u32
     ensures { result ≡ max a b }
@@ -35,7 +35,7 @@ fn reply_for_self<T: Table>(
     range: &NodeSet,
     m: &Request,
     out: &mut Packet,
-) -> Result<Effect, Counter>
+) -> Result<Effect, Full>
     requires order { IsInOrder T.nodes T.entries (length mesh.now) core.old }
     requires says { IsMessageInMesh (length mesh.now) (a_request (request_of m.now)) }
     ensures does { Reacts T.entries mesh.now (λ c. own_reply c range.now (request_of m.now))
@@ -88,7 +88,7 @@ fn reply_from_table<T: Table>(
     m: &Request,
     route: Entry,
     out: &mut Packet,
-) -> Result<Effect, Counter>
+) -> Result<Effect, Full>
     requires order { IsInOrder T.nodes T.entries (length mesh.now) core.old }
     requires says { IsMessageInMesh (length mesh.now) (a_request (request_of m.now)) }
     requires from { from < length mesh.now }
@@ -159,7 +159,7 @@ fn on_new<T: Table>(
     from: usize,
     m: &Request,
     out: &mut Packet,
-) -> Result<Effect, Counter>
+) -> Result<Effect, Full>
     requires order { IsInOrder T.nodes T.entries (length mesh.now) core.old }
     requires says { IsMessageInMesh (length mesh.now) (a_request (request_of m.now)) }
     requires from { from < length mesh.now }
@@ -201,7 +201,7 @@ pub fn take_request<T: Table>(
     from: usize,
     m: &Request,
     out: &mut Packet,
-) -> Result<Effect, Counter>
+) -> Result<Effect, Full>
     requires order { IsInOrder T.nodes T.entries (length mesh.now) core.old }
     requires says { IsMessageInMesh (length mesh.now) (a_request (request_of m.now)) }
     requires from { from < length mesh.now }
@@ -221,7 +221,7 @@ pub fn take_request<T: Table>(
         return Ok(casting(Cast::Nothing));
     }
     if m.hops == 255 {
-        return Err(Counter::Hops);
+        return Err(Full::Hops);
     }
     let kept_from = core.table.get(from);
     let kept_oip = core.table.get(m.oip);
@@ -248,7 +248,7 @@ pub fn on_rreq<T: Table>(
     from: usize,
     m: &Rreq,
     out: &mut Packet,
-) -> Result<Effect, Counter>
+) -> Result<Effect, Full>
     requires order { IsInOrder T.nodes T.entries (length mesh.now) core.old }
     requires known { stranger mesh.now (a_rreq m.now) ≡ None }
     requires osn { 1 ≤ m.now.osn }

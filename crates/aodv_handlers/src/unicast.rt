@@ -11,7 +11,7 @@ use crate::errors::link_broken;
 use crate::messages::{Datum, Reply};
 use aodv_table::Table;
 use aodv_wire::{Rrep, write_data, write_rrep};
-use mesh_base::{Cast, Counter, Effect, Mesh, NodeSet, Packet};
+use mesh_base::{Cast, Effect, Full, Mesh, NodeSet, Packet};
 
 /// The effect of a cast alone.
 pub(crate) fn casting(cast: Cast) -> Effect
@@ -31,7 +31,7 @@ pub(crate) fn fail<T: Table>(
     mesh: &Mesh,
     y: usize,
     out: &mut Packet,
-) -> Result<Effect, Counter>
+) -> Result<Effect, Full>
     requires order { IsInOrder T.nodes T.entries (length mesh.now) core.old }
     ensures does { Reacts T.entries mesh.now (λ c. broken_by y (broken c y))
         core.old result core.new out.new.items }
@@ -57,7 +57,7 @@ pub(crate) fn send_reply<T: Table>(
     y: usize,
     m: Reply,
     out: &mut Packet,
-) -> Result<Effect, Counter>
+) -> Result<Effect, Full>
     requires order { IsInOrder T.nodes T.entries (length mesh.now) core.old }
     requires dip { m.dip < length mesh.now }
     requires oip { m.oip < length mesh.now }
@@ -90,7 +90,7 @@ pub(crate) fn send_datum<T: Table>(
     y: usize,
     m: &Datum<'_>,
     out: &mut Packet,
-) -> Result<Effect, Counter>
+) -> Result<Effect, Full>
     requires order { IsInOrder T.nodes T.entries (length mesh.now) core.old }
     requires says { IsMessageInMesh (length mesh.now) (parcel_of m.now) }
     ensures does { Reacts T.entries mesh.now (λ c. unicast c (parcel_of m.now) y range.now)

@@ -1,14 +1,15 @@
 -- What a table answers after each change.
 use Rattle.std.proofs.Common.{◌≡◌, ℕ, Bool, true, false, cond, ◌&&◌, ◌==◌, nat_lt, List, [], ◌∷◌, map, Some, None, Option, refl, ap, sym, ◌∙◌}
-use Rattle.std.specs.Prelude.{option_map, unwrap_or, if◌then◌else◌}
+use Rattle.std.specs.Prelude.{is_some, option_map, unwrap_or, if◌then◌else◌}
 use Rattle.std.specs.Ordering.{nat_cmp, eq_by_cmp}
 use Rattle.std.specs.Cmp.{nat_cmp_total, unsigned_tied}
 use Rattle.std.specs.FinMap.{FinMap, find, nat_cmp-IsAntisymmetric}
 use borrow.Author.Tests.{eqb-true}
 use Rattle.std.specs.FinMap as maps
+use Rattle.std.specs.FinSet as sets
 use Rattle.aodv_model.specs.Quality.{inc}
 use Rattle.aodv_model.specs.declared.entry.Entry.{Entry}
-use Rattle.aodv_model.specs.Tables.{Dests, Table, accepted_unreachable, add_pre, entry_after, goes_by, invalidate, invalidated, add_pre_at, map_values, sqn, unreachable_by, update}
+use Rattle.aodv_model.specs.Tables.{Dests, Table, accepted_unreachable, add_pre, dests_of, entry_after, goes_by, invalidate, invalidated, add_pre_at, map_values, sqn, unreachable_by, update}
 use Rattle.mesh_base.specs.Members.{NodeIds}
 
 pub get-update : (rt : Table) (d : ℕ) (r : Entry) (q : ℕ) → maps.get (update rt d r) q ≡ (if q == d then Some (entry_after (maps.get rt d) r) else maps.get rt q)
@@ -32,6 +33,9 @@ get-mapped f m q =
 
 pub get-kept : {V : Type 0} (m : FinMap nat_cmp V) (p : ℕ → Bool) (q : ℕ) → maps.get (maps.retain_keys m p) q ≡ (if p q then maps.get m q else None)
 get-kept m p q = maps.get-retain_keys m p q (λ x e. ap p (sym (nat_cmp-IsAntisymmetric q x e)))
+
+pub contains-dests_of : {V : Type 0} (m : FinMap nat_cmp V) (q : ℕ) → sets.contains (dests_of m) q ≡ is_some (maps.get m q)
+contains-dests_of m q = sets.contains-from_list nat_cmp_total (maps.keys m) q ∙ sym (maps.contains_key-keys m q)
 
 pub get-invalidate : (rt : Table) (dests : Dests) (q : ℕ) → maps.get (invalidate rt dests) q ≡ option_map (λ e. invalidated e (maps.get dests q)) (maps.get rt q)
 unfolding invalidate

@@ -11,8 +11,8 @@ use Rattle.std.proofs.lemmas.Option.{none-some, same_Some}
 use Rattle.std.specs.FinMap as maps
 use Rattle.std.specs.FinSet as sets
 use Rattle.mesh_base.specs.Members.{NodeIds}
-use Rattle.mesh_base.specs.declared.events.Counter.{Counter}
-use Rattle.mesh_base.specs.declared.events.Counter.TheVariants as full
+use Rattle.mesh_base.specs.declared.events.Full.{Full as Counter}
+use Rattle.mesh_base.specs.declared.events.Full.TheVariants as full
 use Rattle.mesh_base.specs.declared.events.Variant.{Variant}
 use Rattle.mesh_base.specs.declared.events.Variant.TheVariants.{Base, Number, Reply, Error}
 use Rattle.aodv_model.specs.declared.entry.Entry.{Entry}

@@ -12,7 +12,7 @@ use Rattle.mesh_base.specs.Members.{NodeIds}
 use Rattle.mesh_base.specs.declared.events.Variant.{Variant}
 use Rattle.mesh_base.specs.declared.events.Variant.TheVariants.{Base, Number, Reply, Error}
 use Rattle.aodv_model.specs.Quality.{is_kno, inc}
-use Rattle.aodv_model.specs.Tables.{Table, Dests, unreachable_by, accepted_unreachable, sqn, sqnf, in_vD, in_iD, in_kD, nhop, dhops, precs, status_in, number_in}
+use Rattle.aodv_model.specs.Tables.{Table, Dests, dests_of, unreachable_by, accepted_unreachable, sqn, sqnf, in_vD, in_iD, in_kD, nhop, dhops, precs, status_in, number_in}
 use Rattle.aodv_model.specs.Cores.{Body, RouteRequest, RouteReply, Message, Pkt, Rreq, Rrep, Rerr, Item, New, Heard, Core, add, drop, has_seen, bodies_in, opening}
 use Rattle.aodv_model.specs.Handlers.{Nothing, One, Many, All, Reaction, casting, delivering, plain, only, is_empty, is_error, precs_of, with_precs, error_cast, retract, link_broken, broken_by, unicast, neighbour_entry, route_entry, after_hearing, on_new, losing, losing_if_broken, data_error, on_pkt, key_of, after_request, reply_for_self, can_answer, one, join_answer_precursors, reply_from_table, forward_request, on_new_rreq, on_rreq, is_stale, join_reply_precursors, forward_reply, forward_own_entry, reply_on, after_reply, on_rrep, on_rerr, on_message, turn, may_send, send, drop_if_sent, first_body, may_ask, ask}
 use Rattle.aodv_model.specs.Soundness.{IsSoundTable, IsSoundCore, IsDatum, IsStoreInMesh, AreDestsBelow, IsMessageInMesh, IsItemInMesh, IsCastInMesh, IsSoundReaction}
@@ -62,7 +62,7 @@ module _ (size ip : ℕ) where
   retract_settles : (core : Core) (dests : Dests) → Stands size ip core → Raises core.rt dests → AreDestsBelow size dests → Settles size ip (retract core dests)
   unfolding retract
   retract_settles core dests s raises below = record {
-    core = record { named = s.named; own = s.own; table = invalidate_table size ip core.rt dests raises s.table; store = set_kept size core.store dests s.store };
+    core = record { named = s.named; own = s.own; table = invalidate_table size ip core.rt dests raises s.table; store = set_kept size core.store (dests_of dests) s.store };
     cast = error_in_mesh core.variant core.rt dests below;
   }
 

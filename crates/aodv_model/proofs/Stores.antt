@@ -6,7 +6,8 @@ use Rattle.std.specs.Cmp.{nat_cmp_total, unsigned_tied}
 use Rattle.std.proofs.lemmas.Bool.{eqb-true}
 use Rattle.std.proofs.lemmas.Option.{none-some, same_Some}
 use Rattle.std.specs.FinMap as maps
-use Rattle.aodv_model.specs.Tables.{Dests}
+use Rattle.std.specs.FinSet as sets
+use Rattle.mesh_base.specs.Members.{NodeIds}
 use Rattle.aodv_model.specs.Cores.{Body, Waiting, Store, bodies_in, needs_in, with_body, add, drop, drop_first, rest, unset, set, has_data, in_qD}
 use Rattle.aodv_model.specs.Handlers.{first_body}
 use Rattle.aodv_model.specs.Soundness.{IsDatum, IsWaitingInMesh, IsStoreInMesh}
@@ -24,9 +25,9 @@ pub get-unset : (store : Store) (d q : ℕ) → maps.get (unset store d) q ≡ o
 unfolding unset
 get-unset store d q = get-mapped (λ k w. need_unless (k == d) w) store q
 
-pub get-set : (store : Store) (dests : Dests) (q : ℕ) → maps.get (set store dests) q ≡ option_map (need_if (maps.contains_key dests q)) (maps.get store q)
+pub get-set : (store : Store) (dests : NodeIds) (q : ℕ) → maps.get (set store dests) q ≡ option_map (need_if (sets.contains dests q)) (maps.get store q)
 unfolding set
-get-set store dests q = get-mapped (λ d w. need_if (maps.contains_key dests d) w) store q
+get-set store dests q = get-mapped (λ d w. need_if (sets.contains dests d) w) store q
 
 module _ (size : ℕ) where
   put_case : (store : Store) (d : ℕ) (v : Waiting) (q : ℕ) (w : Waiting) (b : Bool) → (q == d) ≡ b → IsWaitingInMesh size d v → IsStoreInMesh size store → cond b (Some v) (maps.get store q) ≡ Some w → IsWaitingInMesh size q w
@@ -94,8 +95,8 @@ module _ (size : ℕ) where
   pub unset_kept : (store : Store) (d : ℕ) → IsStoreInMesh size store → IsStoreInMesh size (unset store d)
   unset_kept store d = bodies_kept store (unset store d) (λ q w. w.needs_request && not (q == d)) (get-unset store d)
 
-  pub set_kept : (store : Store) (dests : Dests) → IsStoreInMesh size store → IsStoreInMesh size (set store dests)
-  set_kept store dests = bodies_kept store (set store dests) (λ q w. w.needs_request || maps.contains_key dests q) (get-set store dests)
+  pub set_kept : (store : Store) (dests : NodeIds) → IsStoreInMesh size store → IsStoreInMesh size (set store dests)
+  set_kept store dests = bodies_kept store (set store dests) (λ q w. w.needs_request || sets.contains dests q) (get-set store dests)
 
   -- the first datum that waits
   pub first_datum : (store : Store) (d : ℕ) → IsStoreInMesh size store → in_qD store d ≡ true → (d < size) × IsDatum (first_body (bodies_in (maps.get store d)))

@@ -5,6 +5,7 @@ use Rattle.std.specs.Ordering.{nat_cmp}
 use Rattle.std.specs.FinMap as maps
 use Rattle.std.specs.FinMap.{FinMap}
 use Rattle.std.specs.FinSet as sets
+use Rattle.mesh_base.specs.Members.{NodeIds}
 use Rattle.mesh_base.specs.declared.events.Variant.{Variant}
 use Rattle.aodv_model.specs.declared.entry.Known.{Known}
 use Rattle.aodv_model.specs.Pairs.{Pairs}
@@ -103,11 +104,11 @@ unset store d =
     map_values
     (λ k (w : Waiting). record w { needs_request = w.needs_request && not (k == d) }) store
 
--- the destinations in the map that have data need a request; all else stays
-unfoldable pub set : Store → Dests → Store
+-- those of these destinations that have data need a request; all else stays
+unfoldable pub set : Store → NodeIds → Store
 set store dests =
     map_values (λ d (w : Waiting). record w {
-      needs_request = w.needs_request || maps.contains_key dests d;
+      needs_request = w.needs_request || sets.contains dests d;
     }) store
 
 -- the list is not empty

@@ -4,8 +4,8 @@ use Rattle.std.specs.Prelude.{ℕ, Bool, false, not, ◌&&◌, ◌==◌, if◌th
 use Rattle.std.specs.List.{list_any}
 use Rattle.std.specs.FinMap as maps
 use Rattle.mesh_base.specs.Members.{NodeIds}
-use Rattle.mesh_base.specs.declared.events.Counter.{Counter}
-use Rattle.mesh_base.specs.declared.events.Counter.TheVariants as full
+use Rattle.mesh_base.specs.declared.events.Full.{Full as Counter}
+use Rattle.mesh_base.specs.declared.events.Full.TheVariants as full
 use Rattle.mesh_base.specs.declared.events.Variant.{Variant}
 use Rattle.mesh_base.specs.declared.events.Variant.TheVariants as variant
 use Rattle.aodv_model.specs.Tables.{Table, goes_by}

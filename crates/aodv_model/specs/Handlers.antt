@@ -11,7 +11,7 @@ use Rattle.aodv_model.specs.declared.entry.Entry.{Entry}
 use Rattle.aodv_model.specs.declared.entry.Known.TheVariants.{Kno, Unk}
 use Rattle.aodv_model.specs.declared.entry.Flag.TheVariants.{Val}
 use Rattle.aodv_model.specs.Quality.{is_kno, inc}
-use Rattle.aodv_model.specs.Tables.{Table, Dests, sqn, sqnf, in_vD, in_iD, nhop, dhops, precs, is_newer, is_shorter, update, invalidate, add_pre, unreachable_by, accepted_unreachable}
+use Rattle.aodv_model.specs.Tables.{Table, Dests, dests_of, sqn, sqnf, in_vD, in_iD, nhop, dhops, precs, is_newer, is_shorter, update, invalidate, add_pre, unreachable_by, accepted_unreachable}
 use Rattle.aodv_model.specs.Cores.{Body, RouteRequest, RouteReply, Message, Pkt, Rreq, Rrep, Rerr, Item, New, Heard, bodies_in, needs_in, in_qD, add, drop, unset, set, Core, has_seen, next_request_id}
 
 -- ---- effects
@@ -126,7 +126,7 @@ error_cast v rt dests =
 --   5. the route error is cast to those precursors
 unfoldable pub retract : Core → Dests → Reaction
 retract core dests =
-    plain (record core { rt = invalidate core.rt dests; store = set core.store dests })
+    plain (record core { rt = invalidate core.rt dests; store = set core.store (dests_of dests) })
     (casting (error_cast core.variant core.rt dests))
 
 -- the link to y is broken: all valid routes by y become invalid, each with the next number

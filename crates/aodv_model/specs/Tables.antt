@@ -23,6 +23,10 @@ Table = FinMap nat_cmp Entry
 abbrev pub Dests : Type 0
 Dests = FinMap nat_cmp ℕ
 
+-- the destinations that a table or a map of numbers has
+abbrev pub dests_of : {V : Type 0} → FinMap nat_cmp V → NodeIds
+dests_of m = sets.from_list (maps.keys m)
+
 -- ---- what a table says of a destination
 
 -- the sequence number of an entry, or 0

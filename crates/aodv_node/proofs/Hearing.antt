@@ -29,7 +29,7 @@ with_core mesh range old c from bytes (Ok p) out none h = record {
   size = refl;
 }
 with_core mesh range old c from bytes (Err errors.Idle) out none h = absurd h
-with_core mesh range old c from bytes (Err (errors.Malformed f why)) out none h = (
+with_core mesh range old c from bytes (Err (errors.Refused f why)) out none h = (
   record old { items = [] },
   (
     bytes,

@@ -75,7 +75,7 @@ turn_keeps mesh range old (Ok d) new out size s t =
     let it : IsItemInMesh old.size (old.core).ip (item_in mesh t.front) = subst (λ (n : ℕ). IsItemInMesh n (old.core).ip (item_in mesh t.front)) size (item_is_in_mesh mesh (old.core).ip t.front t.readable at) in
     after old (turn old.core range (item_in mesh t.front)) new s (turn_keeps_core old.size old.core range (item_in mesh t.front) s.sound s.store it) (t.made).core t.size both.1
 turn_keeps mesh range old (Err errors.Idle) new out size s t = still old new s t.1
-turn_keeps mesh range old (Err (errors.Malformed from why)) new out size s t =
+turn_keeps mesh range old (Err (errors.Refused from why)) new out size s t =
     let d = t.2 in
     let both : Each old (item.Heard from t.0 ∷ new.items) = subst (λ (xs : List items.Item). Each old xs) d.was s.each in
     same_core old new s d.core d.size both.1

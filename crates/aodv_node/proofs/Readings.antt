@@ -45,7 +45,7 @@ at_message : (mesh : Nodes) (c : Core) (range : NodeIds) (from : ℕ) (bytes : L
 at_message mesh c range from bytes m k (Ok e) new out ok is kind did =
     (ok, kind ∙ ap kind_of is, subst (λ (m : Message). IsMade mesh (turn_full c range (Heard from m)) (turn c range (Heard from m)) e new out) is did)
 at_message mesh c range from bytes m k (Err errors.Idle) new out ok is kind did = did
-at_message mesh c range from bytes m k (Err (errors.Malformed f why)) new out ok is kind did = absurd did
+at_message mesh c range from bytes m k (Err (errors.Refused f why)) new out ok is kind did = absurd did
 at_message mesh c range from bytes m k (Err (errors.Stranger f who)) new out ok is kind did = absurd did
 at_message mesh c range from bytes m k (Err (errors.Full f)) new out ok is kind did =
     (ok, subst (λ (m : Message). IsFull (turn_full c range (Heard from m)) c f new) is did)

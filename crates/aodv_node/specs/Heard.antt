@@ -26,7 +26,7 @@ abbrev pub Tries : Nodes → Core → NodeIds → Item → Result code.Effect Tu
     → Type 0
 Tries mesh c range i (Ok e) new out = IsMade mesh (turn_full c range i) (turn c range i) e new out
 Tries mesh c range i (Err errors.Idle) new out = ⊥
-Tries mesh c range i (Err (errors.Malformed f why)) new out = ⊥
+Tries mesh c range i (Err (errors.Refused f why)) new out = ⊥
 Tries mesh c range i (Err (errors.Stranger f who)) new out = ⊥
 Tries mesh c range i (Err (errors.Full field)) new out = IsFull (turn_full c range i) c field new
 Tries mesh c range i (Err errors.NoMemory) new out = (needs_memory c i ≡ true) × (new ≡ c)
@@ -45,7 +45,7 @@ IsHeard mesh c range from bytes (Ok p) new out =
     IsReadable mesh bytes × (p.0 ≡ kind_of (meaning mesh bytes))
     × IsMade mesh (turn_full c range i) (turn c range i) p.1 new out
 IsHeard mesh c range from bytes (Err errors.Idle) new out = ⊥
-IsHeard mesh c range from bytes (Err (errors.Malformed f why)) new out =
+IsHeard mesh c range from bytes (Err (errors.Refused f why)) new out =
     (f ≡ from) × (refusal bytes ≡ Some why) × (new ≡ c)
 IsHeard mesh c range from bytes (Err (errors.Stranger f who)) new out =
     (f ≡ from) × (refusal bytes ≡ None) × (stranger mesh (message_in_fields bytes) ≡ Some who)

@@ -3,7 +3,7 @@ use Rattle.std.specs.Prelude.{◌≡◌, ◌<◌, ◌≤◌, ◌==◌, ℕ, Bool
 use Rattle.std.specs.FinSet as sets
 use Rattle.mesh_base.specs.Meshes.{Nodes}
 use Rattle.mesh_base.specs.Members.{NodeIds}
-use Rattle.mesh_base.specs.declared.events.Counter.{Counter}
+use Rattle.mesh_base.specs.declared.events.Full.{Full as Counter}
 use Rattle.mesh_base.specs.declared.events.Effect.{Effect}
 use Rattle.mesh_base.specs.declared.events.Item as items
 use Rattle.mesh_base.specs.declared.events.Item.TheVariants as item
@@ -105,7 +105,7 @@ abbrev pub IsTurn : Nodes → NodeIds → NodeSeen → Result done.TurnDone Turn
     → Type 0
 IsTurn mesh range old (Ok d) new out = IsTaken mesh range old d new out
 IsTurn mesh range old (Err errors.Idle) new out = (old.items ≡ []) × (new ≡ old)
-IsTurn mesh range old (Err (errors.Malformed from why)) new out =
+IsTurn mesh range old (Err (errors.Refused from why)) new out =
     (bytes : List ℕ) × (refusal bytes ≡ Some why) × IsDropped old from bytes new
 IsTurn mesh range old (Err (errors.Stranger from who)) new out =
     (bytes : List ℕ) × (refusal bytes ≡ None) × (stranger mesh (message_in_fields bytes) ≡ Some who)

@@ -1,6 +1,6 @@
 //! What a node's calls answer.
 use aodv_wire::WireError;
-use mesh_base::{Addr, Counter, Effect, NoMemory, Took};
+use mesh_base::{Addr, Effect, Full, NoMemory, Took};
 use thiserror::Error;
 
 /// What a turn did.
@@ -20,14 +20,14 @@ pub enum TurnError {
     Idle,
     /// The bytes from that node encode no message. A turn takes them from the inbox.
     #[error("a packet that can't be read")]
-    Malformed { from: usize, why: WireError },
+    Refused { from: usize, why: WireError },
     /// The message from that node names an address outside the mesh; `who` is the first in the
     /// packet's order. A turn takes the packet from the inbox.
     #[error("a packet that names a stranger")]
     Stranger { from: usize, who: Addr },
     /// The turn would raise this counter past its field's greatest value.
     #[error("a counter is full")]
-    Full(Counter),
+    Full(Full),
     /// There isn't enough memory.
     #[error("no memory")]
     NoMemory,
@@ -52,7 +52,7 @@ pub enum SendError {
     Idle,
     /// The send would raise this counter past its field's greatest value.
     #[error("a counter is full")]
-    Full(Counter),
+    Full(Full),
 }
 
 /// Why no request is made.
@@ -64,7 +64,7 @@ pub enum AskError {
     Idle,
     /// The request would raise this counter past its field's greatest value.
     #[error("a counter is full")]
-    Full(Counter),
+    Full(Full),
     /// There isn't enough memory.
     #[error("no memory")]
     NoMemory,

@@ -37,7 +37,7 @@ pub(crate) fn handle<T: Table>(
     ensures order { IsInOrder T.nodes T.entries (length mesh.now) core.new }
 {
     match read(bytes) {
-        Err(why) => Err(TurnError::Malformed { from, why }),
+        Err(why) => Err(TurnError::Refused { from, why }),
         Ok(message) => match meaning_of(mesh, message) {
             Err(who) => Err(TurnError::Stranger { from, who }),
             Ok(Meaning::Request(m)) => {

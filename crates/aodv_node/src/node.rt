@@ -160,7 +160,7 @@ impl Node {
 
     /// Takes the front item of the inbox and does what AODV does with it; `range` has the nodes
     /// that are in range. The packet that is cast is left in `out`. A call is refused for the first
-    /// that applies of Idle, Malformed, Stranger, NoMemory and Full. It can run out of memory only
+    /// that applies of Idle, Refused, Stranger, NoMemory and Full. It can run out of memory only
     /// if the item needs some: a datum for another node, or a route request.
     pub fn turn(
         &mut self,

@@ -78,9 +78,9 @@ pub(crate) fn take_turn<T: Table>(
                     }),
                     _ => unreachable!(),
                 },
-                Err(TurnError::Malformed { from, why }) => {
+                Err(TurnError::Refused { from, why }) => {
                     inbox.pop();
-                    Err(TurnError::Malformed { from, why })
+                    Err(TurnError::Refused { from, why })
                 }
                 Err(TurnError::Stranger { from, who }) => {
                     inbox.pop();

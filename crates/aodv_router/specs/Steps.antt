@@ -27,7 +27,7 @@ use Rattle.aodv_router.specs.Outcomes.{TellsTurn, TellsAct}
 -- the node's refusal, in addresses
 abbrev pub turn_error : Nodes → turns.TurnError → TurnError
 turn_error nodes turn_errors.Idle = turn.Idle
-turn_error nodes (turn_errors.Malformed from why) = turn.Malformed (addr_at nodes from) why
+turn_error nodes (turn_errors.Refused from why) = turn.Refused (addr_at nodes from) why
 turn_error nodes (turn_errors.Stranger from who) = turn.Stranger (addr_at nodes from) who.0
 turn_error nodes (turn_errors.Full field) = turn.Full field
 turn_error nodes turn_errors.NoMemory = turn.NoMemory

@@ -1,6 +1,6 @@
 //! Why a router's call is refused.
 use aodv_wire::WireError;
-use mesh_base::Counter;
+use mesh_base::Full;
 use thiserror::Error;
 
 /// The mesh has no such address.
@@ -64,14 +64,14 @@ pub enum TurnError {
     Idle,
     /// The bytes from that address encode no message. They are taken from the inbox.
     #[error("a packet that can't be read")]
-    Malformed { from: u32, why: WireError },
+    Refused { from: u32, why: WireError },
     /// The message from that address names an address outside the mesh; `who` is the first in the
     /// packet's order. The packet is taken from the inbox.
     #[error("a packet that names a stranger")]
     Stranger { from: u32, who: u32 },
     /// The turn would raise this counter past its field's greatest value.
     #[error("a counter is full")]
-    Full(Counter),
+    Full(Full),
     /// There isn't enough memory.
     #[error("no memory")]
     NoMemory,
@@ -88,7 +88,7 @@ pub enum SendError {
     Idle,
     /// The send would raise this counter past its field's greatest value.
     #[error("a counter is full")]
-    Full(Counter),
+    Full(Full),
 }
 
 /// Why no request is made.
@@ -103,7 +103,7 @@ pub enum AskError {
     Idle,
     /// The request would raise this counter past its field's greatest value.
     #[error("a counter is full")]
-    Full(Counter),
+    Full(Full),
     /// There isn't enough memory.
     #[error("no memory")]
     NoMemory,

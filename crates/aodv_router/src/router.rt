@@ -120,7 +120,7 @@ impl Router {
 
     /// Takes the front item of the inbox, and does what AODV does with it. `near` has the addresses
     /// in range now: a unicast to any other fails. Addresses that the mesh doesn't have are
-    /// skipped. A call is refused for the first that applies of Idle, Malformed, Stranger,
+    /// skipped. A call is refused for the first that applies of Idle, Refused, Stranger,
     /// NoMemory and Full. It can run out of memory only if the item needs some: a datum for another
     /// node, or a route request.
     pub fn turn(&mut self, near: &[u32]) -> Result<Outcome, TurnError>

@@ -145,7 +145,7 @@ fn turn_error(mesh: &Mesh, why: aodv_node::TurnError) -> TurnError
 {
     match why {
         aodv_node::TurnError::Idle => TurnError::Idle,
-        aodv_node::TurnError::Malformed { from, why } => TurnError::Malformed {
+        aodv_node::TurnError::Refused { from, why } => TurnError::Refused {
             from: addr(mesh, from),
             why,
         },

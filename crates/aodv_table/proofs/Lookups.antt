@@ -12,8 +12,8 @@ use Rattle.mesh_base.specs.Members.{NodeIds}
 use Rattle.aodv_model.specs.declared.entry.Entry.{Entry}
 use Rattle.aodv_model.specs.Quality.{is_val}
 use Rattle.aodv_model.specs.Tables.{Table, goes_by, is_valid_in, in_vD}
-use Rattle.aodv_model.proofs.Lookups.{get-kept}
-use Rattle.aodv_table.specs.Calls.{with_entry, dests_of, valid_dests, dests_by}
+use Rattle.aodv_model.proofs.Lookups.{contains-dests_of, get-kept}
+use Rattle.aodv_table.specs.Calls.{with_entry, valid_dests, dests_by}
 
 -- an entry is written or taken away
 pub get-with_entry : (rt : Table) (d : ℕ) (o : Option Entry) (q : ℕ) → maps.get (with_entry rt d o) q ≡ cond (eqb q d) o (maps.get rt q)
@@ -28,9 +28,6 @@ pub same_nodes : (a b : NodeIds) → ((q : ℕ) → sets.contains a q ≡ sets.c
 same_nodes a b same = sets.same_set nat_cmp_total nat_cmp-IsAntisymmetric a b same
 
 -- ---- sets of destinations
-
-pub contains-dests_of : (rt : Table) (q : ℕ) → sets.contains (dests_of rt) q ≡ is_some (maps.get rt q)
-contains-dests_of rt q = sets.contains-from_list nat_cmp_total (maps.keys rt) q ∙ sym (maps.contains_key-keys rt q)
 
 kept_if_valid : (o : Option Entry) → is_some (cond (is_valid_in o) o None) ≡ is_valid_in o
 kept_if_valid None = refl

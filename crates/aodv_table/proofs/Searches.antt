@@ -19,6 +19,7 @@ use Rattle.aodv_model.specs.Fullness.{greatest}
 use Rattle.aodv_table.specs.Calls.{IsBelow, valid_dests, dests_by, is_past, IsLeastPast}
 use Rattle.aodv_model.proofs.Lookups.{get-unreachable_by}
 use Rattle.aodv_table.proofs.Lookups.{contains-valid_dests, contains-dests_by, kept_if_by, same_nodes, same_table}
+use Rattle.aodv_table.proofs.RowLaws.{contains-marked}
 
 pub true_false : true ≡ false → ⊥
 true_false e = cc
@@ -116,6 +117,41 @@ found_all rt y s found valid are gap was = same_nodes found (dests_by rt y) (λ 
       | inr past ↦ ap (λ (b : Bool). b && goes_by (maps.get rt q) y) (le-ltb q s past) ∙ sym (none_by rt valid y q are (gap q past))
     ]
     ∙ sym (contains-dests_by rt y q))
+
+-- ---- the valid destinations
+
+pub record ValidFound (rt : Table) (d : ℕ) (found : NodeIds) : Type 0 where
+  pub so_far : (q : ℕ) → sets.contains found q ≡ (ltb q d && is_valid_in (maps.get rt q))
+
+pub valid_none : (rt : Table) (found : NodeIds) → found ≡ sets.empty → ValidFound rt 0 found
+valid_none rt found none = record { so_far = λ q. ap (λ (s : NodeIds). sets.contains s q) none ∙ sets.contains-empty nat_cmp q ∙ ap (λ (b : Bool). b && is_valid_in (maps.get rt q)) (sym (le-ltb q 0 (omega arith))) }
+
+pub valid_one : (rt : Table) (d : ℕ) (o : Option Entry) (found found' : NodeIds) → o ≡ maps.get rt d → found' ≡ cond (is_valid_in o) (sets.insert found d) (sets.remove found d) → ValidFound rt d found → ValidFound rt (d + 1) found'
+valid_one rt d o found found' read is was = record {
+  so_far = λ q.
+      ap (λ (s : NodeIds). sets.contains s q) is
+      ∙ contains-marked (is_valid_in o) found d q
+      ∙ elim (cases_eq q d) [
+        | inl same ↦
+            ap (λ (b : Bool). cond b (is_valid_in o) (sets.contains found q)) (eq-eqb q d same)
+            ∙ ap is_valid_in (read ∙ ap (maps.get rt) (sym same))
+            ∙ sym (ap (λ (b : Bool). b && is_valid_in (maps.get rt q)) (lt-ltb q (d + 1) (omega arith)))
+        | inr other ↦
+            ap (λ (b : Bool). cond b (is_valid_in o) (sets.contains found q)) (ne_eqb q d other)
+            ∙ was.so_far q
+            ∙ ap (λ (b : Bool). b && is_valid_in (maps.get rt q)) (later q d other)
+      ];
+}
+
+-- no node from n on has an entry
+pub valid_all : (rt : Table) (n d : ℕ) (found : NodeIds) → IsBelow n rt → n ≤ d → ValidFound rt d found → found ≡ valid_dests rt
+valid_all rt n d found below le was = same_nodes found (valid_dests rt) (λ q.
+    was.so_far q
+    ∙ elim (cases_lt q d) [
+      | inl lt ↦ ap (λ (b : Bool). b && is_valid_in (maps.get rt q)) (lt-ltb q d lt)
+      | inr past ↦ ap (λ (b : Bool). b && is_valid_in (maps.get rt q)) (le-ltb q d past) ∙ sym (ap is_valid_in (below q (omega arith)))
+    ]
+    ∙ sym (contains-valid_dests rt q))
 
 -- ---- the destinations with their numbers raised
 

@@ -6,7 +6,7 @@ use Rattle.std.specs.FinSet as sets
 use Rattle.mesh_base.specs.Members.{NodeIds}
 use Rattle.aodv_model.specs.declared.entry.Entry.{Entry}
 use Rattle.aodv_model.specs.Quality.{is_kno, is_val}
-use Rattle.aodv_model.specs.Tables.{Table, Dests, in_vD, goes_by}
+use Rattle.aodv_model.specs.Tables.{Table, Dests, dests_of, in_vD, goes_by}
 use Rattle.aodv_model.specs.Fullness.{greatest}
 
 -- no destination from n on has an entry
@@ -22,10 +22,6 @@ with_entry rt d (Some e) = maps.insert rt d e
 unfoldable pub nodes_below : ℕ → NodeIds
 nodes_below zero = sets.empty
 nodes_below (suc n) = sets.insert (nodes_below n) n
-
--- the destinations that have an entry
-abbrev pub dests_of : Table → NodeIds
-dests_of rt = sets.from_list (maps.keys rt)
 
 -- the destinations that have a valid entry (AWN's vD)
 unfoldable pub valid_dests : Table → NodeIds

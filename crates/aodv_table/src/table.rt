@@ -7,7 +7,7 @@ ghost use Rattle.aodv_model.specs.declared.entry.Flag.TheVariants.{Val};
 ghost use Rattle.aodv_model.specs.Tables.{Table as Entries, update, invalidate, add_pre, unreachable_by};
 ghost use Rattle.aodv_table.specs.Calls.{IsBelow, with_entry, valid_dests, is_neighbour_in, dests_by, is_past, IsLeastPast};
 
-use crate::merge::{entry_after, entry_by, is_changed};
+use crate::merge::{entry_after, entry_by, is_changed, is_neighbour_entry, mark_valid};
 use aodv_model::{Dests, Entry, Flag, inc};
 use mesh_base::{MOST_NODES, NoMemory, NodeSet};
 
@@ -15,9 +15,9 @@ use mesh_base::{MOST_NODES, NoMemory, NodeSet};
 /// mesh.
 ///
 /// A destination gets room for an entry by `make_room`, and keeps it. No other call takes memory. A
-/// kind of table says how it reads and writes one entry, and how it knows a neighbour that was
-/// heard, and keeps the set of its valid destinations. What AWN does with tables is defined here,
-/// by means of these.
+/// kind of table says how it makes room, and how it reads and writes one entry. What AWN does with
+/// tables is defined here, by means of these. A table that keeps the set of its valid destinations,
+/// or of the neighbours that were heard, gives its own `valid` and `is_neighbour`.
 pub trait Table: Drop {
     /// The entries, by destination.
     ghost entries: { Self → Entries };
@@ -118,17 +118,28 @@ pub trait Table: Drop {
         }
     }
 
-    /// The destinations that have a valid entry (AWN's vD). The table keeps this set: nothing is
-    /// searched.
+    /// The destinations that have a valid entry (AWN's vD). All entries are looked at; a table that
+    /// keeps this set looks at none.
     fn valid(&self) -> NodeSet
-        ensures { result ≡ valid_dests (entries self.now) };
+        ensures { result ≡ valid_dests (entries self.now) }
+    {
+        let nodes = self.nodes();
+        let mut valid = NodeSet::new();
+        for d in 0..nodes {
+            mark_valid(&mut valid, d, &self.get(d));
+        }
+        valid
+    }
 
     /// Whether d's entry is that of a neighbour that was heard: valid, one hop away by d itself,
     /// and with its number marked as unknown, whatever that number and its precursors are. A table
     /// that keeps the set of these neighbours looks at no entry.
     fn is_neighbour(&self, d: usize) -> bool
         requires { d < nodes self.now }
-        ensures { result ≡ is_neighbour_in (entries self.now) d };
+        ensures { result ≡ is_neighbour_in (entries self.now) d }
+    {
+        is_neighbour_entry(d, &self.get(d))
+    }
 
     /// The destinations that have a valid entry with that next hop. All valid entries are looked
     /// at.

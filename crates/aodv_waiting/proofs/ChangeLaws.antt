@@ -1,16 +1,13 @@
 -- What a store's changes do to the rows that show it.
-use Rattle.std.proofs.Common.{◌≡◌, ◌≢◌, ◌<◌, ◌≤◌, ℕ, zero, suc, ◌+◌, Bool, true, false, cond, eqb, not, ◌&&◌, ◌||◌, List, [], ◌∷◌, ◌++◌, map, length, take, Option, Some, refl, sym, ap, subst, ◌∙◌, arith, eq-eqb, inl, inr}
+use Rattle.std.proofs.Common.{◌≡◌, ◌≢◌, ◌<◌, ℕ, Bool, true, false, cond, eqb, not, ◌&&◌, ◌||◌, List, [], ◌∷◌, ◌++◌, length, Option, Some, refl, sym, ap, subst, ◌∙◌, eq-eqb, inl, inr}
 use Rattle.std.proofs.Math.ListN.{set as put, drop as from}
-use Rattle.std.specs.Prelude.{option_map, slice_get}
-use Rattle.std.proofs.lemmas.List.{take_all, length-map}
-use Rattle.std.specs.List.{AllByRecursion, list_any}
-use Rattle.std.specs.Ordering.{nat_cmp, eq_by_cmp}
-use Rattle.std.specs.Cmp.{unsigned_tied}
+use Rattle.std.specs.Prelude.{option_map}
+use Rattle.std.specs.List.{AllByRecursion}
+use Rattle.std.specs.Cmp.{nat_cmp_total}
 use Rattle.std.proofs.lemmas.Bool.{ne_eqb, cases_eq}
 use Rattle.std.specs.FinMap as maps
 use Rattle.std.specs.FinSet as sets
 use Rattle.mesh_base.specs.Members.{NodeIds}
-use Rattle.aodv_model.specs.Tables.{Dests}
 use Rattle.aodv_model.specs.Cores as cores
 use Rattle.aodv_model.specs.Cores.{Body, Waiting, Store, has_data, bodies_in, needs_in, in_qD, with_body, drop_first, rest}
 use Rattle.aodv_model.specs.Soundness.{IsDatum}
@@ -197,112 +194,40 @@ unset_kept rows with_data needing d are = record {
     not_both : false ≡ true → ⊥
     not_both e = cc
 
--- the marks with those among the first k destinations of the list that have data
-pub record AreMarked (with_data before after : NodeIds) (ds : List ℕ) : Type 0 where
-  pub marks : (q : ℕ) → sets.contains after q ≡ (sets.contains before q || (sets.contains with_data q && list_any (eq_by_cmp nat_cmp q) ds))
+-- those of these destinations that have data are marked
+abbrev pub marks_among : NodeIds → NodeIds → NodeIds → NodeIds
+marks_among with_data needing dests = sets.union needing (sets.intersection dests with_data)
 
-with_marks : (needs listed data_there : Bool) (bs : List Body) → data_there ≡ has_data bs → waiting_of (needs || (data_there && listed)) bs ≡ option_map (need_if listed) (waiting_of needs bs)
-with_marks needs listed data_there [] e = refl
-with_marks needs listed true (b ∷ bs) e = refl
-with_marks needs listed false (b ∷ bs) e = cc
+is_marked : (with_data needing dests : NodeIds) (q : ℕ) → sets.contains (marks_among with_data needing dests) q ≡ (sets.contains needing q || (sets.contains dests q && sets.contains with_data q))
+is_marked with_data needing dests q =
+    sets.contains-union nat_cmp_total needing (sets.intersection dests with_data) q
+    ∙ ap (λ (b : Bool). sets.contains needing q || b) (sets.contains-intersection nat_cmp_total dests with_data q)
 
-pub set_is : (rows : Rows) (with_data needing needing' : NodeIds) (dests : Dests) → AreRows rows with_data needing → AreMarked with_data needing needing' (maps.keys dests)
-    → store_of needing' rows ≡ cores.set (store_of needing rows) dests
-set_is rows with_data needing needing' dests are marked_are =
+with_marks : (needs named data_there : Bool) (bs : List Body) → data_there ≡ has_data bs → waiting_of (needs || (named && data_there)) bs ≡ option_map (need_if named) (waiting_of needs bs)
+with_marks needs named data_there [] e = refl
+with_marks needs true true (b ∷ bs) e = refl
+with_marks needs false true (b ∷ bs) e = refl
+with_marks needs named false (b ∷ bs) e = cc
+
+pub set_is : (rows : Rows) (with_data needing dests : NodeIds) → AreRows rows with_data needing
+    → store_of (marks_among with_data needing dests) rows ≡ cores.set (store_of needing rows) dests
+set_is rows with_data needing dests are =
     let store = store_of needing rows in
-    same_rows needing' rows (cores.set store dests) (λ q.
-    ap (λ (b : Bool). waiting_of b (bodies_at rows q)) (marked_are.marks q ∙ ap (λ (b : Bool). sets.contains needing q || (sets.contains with_data q && b)) (sym (maps.contains_key-keys dests q)))
-    ∙ with_marks (sets.contains needing q) (maps.contains_key dests q) (sets.contains with_data q) (bodies_at rows q) (are.data_are q)
-    ∙ ap (option_map (need_if (maps.contains_key dests q))) (sym (get-store_of needing rows q))
+    same_rows (marks_among with_data needing dests) rows (cores.set store dests) (λ q.
+    ap (λ (b : Bool). waiting_of b (bodies_at rows q)) (is_marked with_data needing dests q)
+    ∙ with_marks (sets.contains needing q) (sets.contains dests q) (sets.contains with_data q) (bodies_at rows q) (are.data_are q)
+    ∙ ap (option_map (need_if (sets.contains dests q))) (sym (get-store_of needing rows q))
     ∙ sym (get-set store dests q))
 
-pub set_kept : (rows : Rows) (with_data needing needing' : NodeIds) (ds : List ℕ) → AreRows rows with_data needing → AreMarked with_data needing needing' ds → AreRows rows with_data needing'
-set_kept rows with_data needing needing' ds are marked_are = record {
+pub set_kept : (rows : Rows) (with_data needing dests : NodeIds) → AreRows rows with_data needing → AreRows rows with_data (marks_among with_data needing dests)
+set_kept rows with_data needing dests are = record {
   few = are.few;
   data_are = are.data_are;
-  needing_are = λ q need. some_data (sets.contains needing q) (sets.contains with_data q) (list_any (eq_by_cmp nat_cmp q) ds) (are.needing_are q) (sym (marked_are.marks q) ∙ need);
+  needing_are = λ q need. some_data (sets.contains needing q) (sets.contains dests q) (sets.contains with_data q) (are.needing_are q) (sym (is_marked with_data needing dests q) ∙ need);
   bodies_are = are.bodies_are;
 }
   where
-    some_data : (n w l : Bool) → (n ≡ true → w ≡ true) → (n || (w && l)) ≡ true → w ≡ true
-    some_data true w l is e = is refl
-    some_data false true l is e = refl
-    some_data false false l is e = e
-
-or_none : (n w : Bool) → n ≡ (n || (w && false))
-or_none true w = refl
-or_none false true = refl
-or_none false false = refl
-
-pub none_marked : (with_data needing : NodeIds) → AreMarked with_data needing needing []
-none_marked with_data needing = record { marks = λ q. or_none (sets.contains needing q) (sets.contains with_data q) }
-
-any_push : (p : ℕ → Bool) (ds : List ℕ) (d : ℕ) → list_any p (ds ++ d ∷ []) ≡ (list_any p ds || p d)
-any_push p [] d = elim (p d) as (λ b. (b || false) ≡ b) [ true ↦ refl | false ↦ refl ]
-any_push p (x ∷ ds) d = ap (λ (b : Bool). p x || b) (any_push p ds d) ∙ assoc (p x) (list_any p ds) (p d)
-  where
-    assoc : (a b c : Bool) → (a || (b || c)) ≡ ((a || b) || c)
-    assoc true b c = refl
-    assoc false b c = refl
-
--- one more is looked at: it is marked where it has data
-pub one_marked : (b : Bool) (with_data before now after : NodeIds) (ds : List ℕ) (d : ℕ) → b ≡ sets.contains with_data d → after ≡ cond b (sets.insert now d) now → AreMarked with_data before now ds → AreMarked with_data before after (ds ++ d ∷ [])
-one_marked b with_data before now after ds d is new marked_are = record {
-  marks = λ q.
-      ap (λ (s : NodeIds). sets.contains s q) new
-      ∙ looked b q is
-      ∙ ap (λ (l : Bool). sets.contains before q || (sets.contains with_data q && l)) (sym (any_push (eq_by_cmp nat_cmp q) ds d));
-}
-  where
-    or_last : (n w l : Bool) → (n || (w && l)) ≡ (n || (w && (l || false)))
-    or_last true w l = refl
-    or_last false true true = refl
-    or_last false true false = refl
-    or_last false false l = refl
-
-    or_true : (n w l : Bool) → w ≡ true → true ≡ (n || (w && (l || true)))
-    or_true true w l e = refl
-    or_true false true true e = refl
-    or_true false true false e = refl
-    or_true false false l e = cc
-
-    or_without : (n w l x : Bool) → w ≡ false → (n || (w && l)) ≡ (n || (w && (l || x)))
-    or_without true w l x e = refl
-    or_without false true l x e = cc
-    or_without false false l x e = refl
-
-    looked : (b : Bool) (q : ℕ) → b ≡ sets.contains with_data d → sets.contains (cond b (sets.insert now d) now) q ≡ (sets.contains before q || (sets.contains with_data q && (list_any (eq_by_cmp nat_cmp q) ds || eq_by_cmp nat_cmp q d)))
-    looked b q is = elim (cases_eq q d) [
-      | inl same ↦ here b q is same
-      | inr apart ↦
-          other b q apart ∙ marked_are.marks q
-          ∙ or_last (sets.contains before q) (sets.contains with_data q) (list_any (eq_by_cmp nat_cmp q) ds)
-          ∙ ap (λ (x : Bool). sets.contains before q || (sets.contains with_data q && (list_any (eq_by_cmp nat_cmp q) ds || x))) (sym (unsigned_tied q d ∙ ne_eqb q d apart))
-    ]
-      where
-        other : (b : Bool) (q : ℕ) → q ≢ d → sets.contains (cond b (sets.insert now d) now) q ≡ sets.contains now q
-        other true q apart = in_apart now d q apart
-        other false q apart = refl
-
-        here : (b : Bool) (q : ℕ) → b ≡ sets.contains with_data d → q ≡ d → sets.contains (cond b (sets.insert now d) now) q ≡ (sets.contains before q || (sets.contains with_data q && (list_any (eq_by_cmp nat_cmp q) ds || eq_by_cmp nat_cmp q d)))
-        here true q is same =
-            ap (sets.contains (sets.insert now d)) same ∙ in_here now d
-            ∙ or_true (sets.contains before q) (sets.contains with_data q) (list_any (eq_by_cmp nat_cmp q) ds) (ap (sets.contains with_data) same ∙ sym is)
-            ∙ ap (λ (x : Bool). sets.contains before q || (sets.contains with_data q && (list_any (eq_by_cmp nat_cmp q) ds || x))) (sym (unsigned_tied q d ∙ eq-eqb q d same))
-        here false q is same =
-            marked_are.marks q
-            ∙ or_without (sets.contains before q) (sets.contains with_data q) (list_any (eq_by_cmp nat_cmp q) ds) (eq_by_cmp nat_cmp q d) (ap (sets.contains with_data) same ∙ sym is)
-
--- the next destination of the map
-pub next_key : (dests : Dests) (k : ℕ) (p : ℕ × ℕ) → slice_get (maps.entries dests) k ≡ Some p → take (k + 1) (maps.keys dests) ≡ take k (maps.keys dests) ++ p.0 ∷ []
-next_key dests k p at = along (maps.entries dests) k p at
-  where
-    along : (es : List (ℕ × ℕ)) (k : ℕ) (p : ℕ × ℕ) → slice_get es k ≡ Some p → take (k + 1) (map (λ e. e.0) es) ≡ take k (map (λ e. e.0) es) ++ p.0 ∷ []
-    along [] k p e = cc
-    along (x ∷ es) zero p e = let same : x ≡ p = cc in ap (λ (y : ℕ × ℕ). y.0 ∷ []) same
-    along (x ∷ es) (suc k) p e =
-        let next : suc k + 1 ≡ suc (k + 1) = omega arith in
-        rw next (ap (λ (ys : List ℕ). x.0 ∷ ys) (along es k p e))
-
-pub all_keys : (dests : Dests) (k : ℕ) → length (maps.entries dests) ≤ k → take k (maps.keys dests) ≡ maps.keys dests
-all_keys dests k le = take_all k (maps.keys dests) (omega (arith, length-map (maps.entries dests) (λ e. e.0)))
+    some_data : (n d w : Bool) → (n ≡ true → w ≡ true) → (n || (d && w)) ≡ true → w ≡ true
+    some_data true d w is e = is refl
+    some_data false true w is e = e
+    some_data false false w is e = cc

@@ -7,7 +7,6 @@ ghost use Rattle.aodv_model.specs.Handlers.{first_body};
 ghost use Rattle.aodv_model.specs.Soundness.{IsDatum, IsStoreInMesh};
 
 use crate::row::Row;
-use aodv_model::Dests;
 use mesh_base::{Bytes, MOST_NODES, NoMemory, NodeSet};
 use std::alloc::Global;
 use std::marker::Model;
@@ -48,16 +47,6 @@ fn mark_if_new(needing: &mut NodeSet, with_data: &NodeSet, d: usize)
         ≡ (if sets.contains with_data.now d then needing.old else sets.insert needing.old d) }
 {
     if !with_data.has(d) {
-        needing.add(d);
-    }
-}
-
-// Marks d as in need of a request, if it has data.
-fn mark_if_waiting(needing: &mut NodeSet, with_data: &NodeSet, d: usize)
-    ensures { needing.new
-        ≡ (if sets.contains with_data.now d then sets.insert needing.old d else needing.old) }
-{
-    if with_data.has(d) {
         needing.add(d);
     }
 }
@@ -153,15 +142,15 @@ impl Waiting {
         self.needing.has(d)
     }
 
-    /// Marks those destinations of `dests` that have data as in need of a request.
-    pub fn set_req(&mut self, dests: &Dests)
+    /// Marks those of these destinations that have data as in need of a request. It looks at none
+    /// of them.
+    pub fn set_req(&mut self, dests: &NodeSet)
         ensures store { self.new.store ≡ set self.old.store dests.now }
         ensures rooms { self.new.rooms ≡ self.old.rooms }
     {
-        for k in 0..dests.len() {
-            let (d, _) = dests.pair(k);
-            mark_if_waiting(&mut self.needing, &self.with_data, d);
-        }
+        let mut waiting = *dests;
+        waiting.meet(&self.with_data);
+        self.needing.join(&waiting);
     }
 
     /// Marks d as in no need of a request for now.

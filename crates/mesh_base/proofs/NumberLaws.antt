@@ -1,9 +1,9 @@
 -- Decimal numbers.
-use Rattle.std.proofs.Common.{◌≡◌, ℕ, ◌+◌, ◌-◌, ◌*◌, ◌/◌, ◌%◌, ◌^◌, length-append, append_assoc, ◌++◌, sym, ◌<◌, ◌≤◌, Bool, eqb, true, false, cond, leb, ◌&&◌, List, [], ◌∷◌, Some, None, length, drop, get_or, refl, ap, ◌∙◌, arith}
+use Rattle.std.proofs.Common.{◌≡◌, ℕ, ◌+◌, ◌-◌, ◌*◌, ◌/◌, ◌%◌, ◌^◌, length-append, append_assoc, ◌++◌, sym, ◌<◌, ◌≤◌, Bool, eqb, true, false, cond, leb, ◌&&◌, List, [], ◌∷◌, Some, None, length, take, drop, get_or, refl, ap, ◌∙◌, arith}
 use Rattle.std.specs.Str.{all_ascii_digits}
 use Rattle.std.specs.Char.{is_ascii_digit}
 use Rattle.std.specs.Fmt.{decimal}
-use Rattle.std.proofs.lemmas.List.{at_drop_more}
+use Rattle.std.proofs.lemmas.List.{at_drop_more, take-take}
 use Rattle.std.proofs.lemmas.Fmt.{length-decimal-le, decimal_step, decimal_digit}
 use Rattle.std.proofs.lemmas.Bool.Decides.{nat_tests}
 use Rattle.std.proofs.lemmas.List.Splits.{length-slice_split}
@@ -116,3 +116,46 @@ address_of_five text a b c d rest e = rw e (too_many a b c d _ (omega (arith, le
 
 pub at_most_twenty : (n : ℕ) → n < 2 ^ 64 → length (decimal n) ≤ 20
 at_most_twenty n h = length-decimal-le 20 n (omega arith) (omega arith) h
+
+-- ---- a number of at most four digits, from the digits of its hundreds and of what is left
+
+same_digits : (a b c d : ℕ) → a ≡ c → b ≡ d → (48 + a) ∷ (48 + b) ∷ [] ≡ (48 + c) ∷ (48 + d) ∷ []
+same_digits a b c d e f = rw (e, f) refl
+
+pub one_digit_is : (n : ℕ) (low : List ℕ) → n < 10 → low ≡ (48 + n % 100 / 10) ∷ (48 + n % 100 % 10) ∷ [] → get_or low 1 0 ∷ [] ≡ decimal n
+one_digit_is n low lt e =
+    let is : 48 + n % 100 % 10 ≡ 48 + n = omega arith in
+    ap (λ ds. get_or ds 1 0 ∷ []) e ∙ ap (λ d. d ∷ []) is ∙ sym (decimal_digit n lt)
+
+pub two_digits_are : (n : ℕ) (low : List ℕ) → 10 ≤ n → n < 100 → low ≡ (48 + n % 100 / 10) ∷ (48 + n % 100 % 10) ∷ []
+    → get_or low 0 0 ∷ get_or low 1 0 ∷ [] ≡ decimal n
+two_digits_are n low ge lt e =
+    ap (λ ds. get_or ds 0 0 ∷ get_or ds 1 0 ∷ []) e ∙ same_digits (n % 100 / 10) (n % 100 % 10) (n / 10) (n % 10) (omega arith) (omega arith)
+    ∙ sym (two_digits n ge lt)
+
+pub three_digits_are : (n : ℕ) (high low : List ℕ) → 100 ≤ n → n < 1000 → high ≡ (48 + n / 100 / 10) ∷ (48 + n / 100 % 10) ∷ []
+    → low ≡ (48 + n % 100 / 10) ∷ (48 + n % 100 % 10) ∷ [] → get_or high 1 0 ∷ get_or low 0 0 ∷ get_or low 1 0 ∷ [] ≡ decimal n
+three_digits_are n high low ge lt e f =
+    let is : 48 + n / 100 % 10 ≡ 48 + n / 100 = omega arith in
+    ap (λ ds. get_or ds 1 0 ∷ get_or low 0 0 ∷ get_or low 1 0 ∷ []) e ∙ ap (λ ds. (48 + n / 100 % 10) ∷ get_or ds 0 0 ∷ get_or ds 1 0 ∷ []) f
+    ∙ ap (λ d. d ∷ (48 + n % 100 / 10) ∷ (48 + n % 100 % 10) ∷ []) is
+    ∙ ap (λ ds. ds ++ (48 + n % 100 / 10) ∷ (48 + n % 100 % 10) ∷ []) (sym (decimal_digit (n / 100) (omega arith)))
+    ∙ sym (by_hundreds n ge (omega arith))
+
+pub four_digits_are : (n : ℕ) (high low : List ℕ) → 1000 ≤ n → n < 10000 → high ≡ (48 + n / 100 / 10) ∷ (48 + n / 100 % 10) ∷ []
+    → low ≡ (48 + n % 100 / 10) ∷ (48 + n % 100 % 10) ∷ [] → get_or high 0 0 ∷ get_or high 1 0 ∷ get_or low 0 0 ∷ get_or low 1 0 ∷ [] ≡ decimal n
+four_digits_are n high low ge lt e f =
+    ap (λ ds. get_or ds 0 0 ∷ get_or ds 1 0 ∷ get_or low 0 0 ∷ get_or low 1 0 ∷ []) e
+    ∙ ap (λ ds. (48 + n / 100 / 10) ∷ (48 + n / 100 % 10) ∷ get_or ds 0 0 ∷ get_or ds 1 0 ∷ []) f
+    ∙ ap (λ ds. ds ++ (48 + n % 100 / 10) ∷ (48 + n % 100 % 10) ∷ []) (sym (two_digits (n / 100) (omega arith) (omega arith)))
+    ∙ sym (by_hundreds n (omega arith) (omega arith))
+
+-- the last four digits, behind the others
+pub joined_digits : (n w : ℕ) (cells whole digits : List ℕ) → 10000 ≤ n → n < 2 ^ 64 → w ≤ 4 → take 4 cells ≡ whole → take w whole ≡ decimal (n / 10000)
+    → digits ≡ (48 + n % 10000 / 100 / 10) ∷ (48 + n % 10000 / 100 % 10) ∷ (48 + n % 10000 % 100 / 10) ∷ (48 + n % 10000 % 100 % 10) ∷ []
+    → take w cells ++ digits ≡ decimal n
+joined_digits n w cells whole digits ge lt le e f g =
+    let high : take w cells ≡ decimal (n / 10000) = sym (take-take w 4 cells le) ∙ ap (take w) e ∙ f in
+    let pieces : take w cells ++ digits ≡ (decimal (n / 10000) ++ (48 + n % 10000 / 100 / 10) ∷ (48 + n % 10000 / 100 % 10) ∷ []) ++ (48 + n % 10000 % 100 / 10) ∷ (48 + n % 10000 % 100 % 10) ∷ [] =
+    rw (high, g) (sym (append_assoc (decimal (n / 10000)) ((48 + n % 10000 / 100 / 10) ∷ (48 + n % 10000 / 100 % 10) ∷ []) _)) in
+    appended_four [] (decimal (n / 10000)) _ n ge lt refl pieces

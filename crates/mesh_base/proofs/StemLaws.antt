@@ -1,10 +1,11 @@
 -- An address that begins with the numbers that are kept written.
-use Rattle.std.proofs.Common.{◌≡◌, ℕ, ◌+◌, ◌-◌, ◌*◌, ◌/◌, ◌%◌, ◌^◌, ◌<◌, ◌≤◌, List, [], ◌∷◌, ◌++◌, Some, length, take, drop, sym, ap, ◌∙◌, append_assoc, arith}
+use Rattle.std.proofs.Common.{◌≡◌, ℕ, ◌+◌, ◌-◌, ◌*◌, ◌/◌, ◌%◌, ◌^◌, ◌<◌, ◌≤◌, List, [], ◌∷◌, ◌++◌, Some, length, take, drop, sym, ap, ◌∙◌, append_assoc, length-append, length-take, arith}
 use Rattle.std.specs.Fmt.{decimal}
 use Rattle.std.proofs.lemmas.List.{take-append-drop, take-take}
 use Rattle.mesh_base.specs.Numbers.{number_up_to}
 use Rattle.mesh_base.specs.Parts.{parts}
-use Rattle.mesh_base.specs.Addresses.{address_of, address_from}
+use Rattle.std.proofs.Math.Seq.{take-append_seam}
+use Rattle.mesh_base.specs.Addresses.{address_of, address_from, dotted_decimal}
 use Rattle.mesh_base.specs.Stems.{stem_of}
 use Rattle.mesh_base.proofs.WrittenForms.{decimal_lacks, parts_at, number_up_to-decimal}
 use Rattle.mesh_base.proofs.AddressLaws.{digits_whole, number_digits, four_are}
@@ -55,3 +56,28 @@ stem_and_last text last high z fits is last_is =
     (number_up_to-decimal 255 (high / 256 % 256) (omega arith) (omega arith))
     (number_up_to-decimal 255 (high % 256) (omega arith) (omega arith)) last_is
     ∙ ap Some value
+
+-- what stands before the last byte
+pub before_the_last : (xs ys : List ℕ) (b n : ℕ) → n ≤ length xs → take n xs ≡ ys ++ b ∷ [] → take (n - 1) xs ≡ ys
+before_the_last xs ys b n le e =
+    let long : n ≡ length ys + 1 = omega (arith, length-take n xs, ap length e, length-append ys (b ∷ [])) in
+    let less : n - 1 ≡ length ys = omega arith in
+    ap (λ k. take k xs) less ∙ sym (take-take (length ys) n xs (omega arith)) ∙ ap (take (length ys)) e ∙ take-append_seam ys (b ∷ [])
+
+-- three numbers and a last one, each with its dot
+pub dotted_before_the_last : (a n : ℕ) (xs y z w : List ℕ) → n ≤ length xs
+    → y ≡ decimal (a / 16777216) ++ 46 ∷ [] → z ≡ y ++ (decimal (a / 65536 % 256) ++ 46 ∷ []) → w ≡ z ++ (decimal (a / 256 % 256) ++ 46 ∷ [])
+    → take n xs ≡ w ++ (decimal (a % 256) ++ 46 ∷ []) → take (n - 1) xs ≡ dotted_decimal a
+dotted_before_the_last a n xs y z w le e f g h =
+    let whole : w ++ (decimal (a % 256) ++ 46 ∷ []) ≡ dotted_decimal a ++ 46 ∷ [] = rw (g, f, e) (simp append_assoc) in
+    before_the_last xs (dotted_decimal a) 46 n le (h ∙ whole)
+
+-- the first three numbers and the last one
+pub dotted_after_the_stem : (a n high : ℕ) (xs stem : List ℕ) → n ≤ length xs → a / 256 ≡ high → stem ≡ stem_of high
+    → take n xs ≡ stem ++ (decimal (a % 256) ++ 46 ∷ []) → take (n - 1) xs ≡ dotted_decimal a
+dotted_after_the_stem a n high xs stem le is e h =
+    let x : high / 65536 ≡ a / 16777216 = omega arith in
+    let y : high / 256 % 256 ≡ a / 65536 % 256 = omega arith in
+    let z : high % 256 ≡ a / 256 % 256 = omega arith in
+    let whole : stem ++ (decimal (a % 256) ++ 46 ∷ []) ≡ dotted_decimal a ++ 46 ∷ [] = rw (e, x, y, z) (simp append_assoc) in
+    before_the_last xs (dotted_decimal a) 46 n le (h ∙ whole)

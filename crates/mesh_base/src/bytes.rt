@@ -4,6 +4,8 @@ ghost use Rattle.std.specs.Prelude.{◌≡◌, ◌≤◌, ◌↔◌, [], length,
 use crate::few::InlineBytes;
 use std::alloc::{AllocError, AllocFailed, Global};
 use std::marker::Model;
+use std::mem::replace;
+use std::sync::Arc;
 
 /// Out of memory: an allocation failed, or what is kept has reached a limit of its own.
 #[derive(Clone, Copy, Debug, PartialEq, Eq)]
@@ -21,7 +23,8 @@ impl<T: Drop> From<AllocFailed<T>> for NoMemory {
     }
 }
 
-/// An owned list of bytes. Up to 32 bytes can be kept without taking memory.
+/// An owned list of bytes. Up to 32 bytes can be kept without taking memory. Longer ones can have
+/// several owners, which share their memory.
 #[derive(Drop)]
 pub struct Bytes {
     kept: Kept,
@@ -32,6 +35,7 @@ pub struct Bytes {
 enum Kept {
     Short(InlineBytes<32>),
     Long(Vec<u8>),
+    Counted(Arc<Vec<u8>>),
 }
 
 impl Model for Bytes {
@@ -41,6 +45,48 @@ impl Model for Bytes {
     ghost Value = { List ℕ };
 
     ghost view = { λ b. bytes_of b.kept };
+}
+
+// The same bytes twice. The second is None if they have so many owners that one more can't be
+// counted.
+fn twice(counted: Arc<Vec<u8>>) -> (Bytes, Option<Bytes>)
+    ensures first { result.0 ≡ counted.value.items }
+    ensures second { IfSome result.1 (λ s. s ≡ counted.value.items) }
+{
+    let second = match counted.clone() {
+        Ok(other) => Some(Bytes {
+            kept: Kept::Counted(other),
+        }),
+        Err(_) => None,
+    };
+    let first = Bytes {
+        kept: Kept::Counted(counted),
+    };
+    (first, second)
+}
+
+// The same bytes twice. The second is None if there is no memory for the count of their owners, or
+// if one more can't be counted.
+fn split(alloc: Global, bytes: Bytes) -> (Bytes, Option<Bytes>)
+    ensures first { result.0 ≡ bytes }
+    ensures second { IfSome result.1 (λ s. s ≡ bytes) }
+{
+    if let Some(short) = bytes.clone_inline() {
+        return (bytes, Some(short));
+    }
+    match bytes.kept {
+        Kept::Short(few) => (
+            Bytes {
+                kept: Kept::Short(few),
+            },
+            None,
+        ),
+        Kept::Long(items) => match Arc::new(alloc, items) {
+            Ok(counted) => twice(counted),
+            Err(failed) => (Bytes::from_vec(failed.value), None),
+        },
+        Kept::Counted(counted) => twice(counted),
+    }
 }
 
 impl Bytes {
@@ -82,7 +128,21 @@ impl Bytes {
                 kept: Kept::Short(*few),
             }),
             Kept::Long(items) => Bytes::short(items.as_slice()),
+            Kept::Counted(items) => Bytes::short(items.as_ref().as_slice()),
         }
+    }
+
+    /// The same bytes once more: up to 32 are copied, which takes no memory; of more the memory is
+    /// shared. None if there is no memory for the count of their owners, or if one more can't be
+    /// counted.
+    pub fn share(&mut self, alloc: Global) -> Option<Bytes>
+        ensures same { self.new ≡ self.old }
+        ensures second { IfSome result (λ s. s ≡ self.old) }
+    {
+        let taken = replace(self, Bytes::empty());
+        let (kept, second) = split(alloc, taken);
+        *self = kept;
+        second
     }
 
     /// The bytes of a vector, without a copy.
@@ -119,6 +179,7 @@ impl Bytes {
         match &self.kept {
             Kept::Short(few) => few.as_slice(),
             Kept::Long(items) => items.as_slice(),
+            Kept::Counted(items) => items.as_ref().as_slice(),
         }
     }
 }

@@ -67,7 +67,7 @@ pub enum Variant {
 
 /// Which counter a step would raise past its field's greatest value.
 #[derive(Clone, Copy, Debug, PartialEq, Eq)]
-pub enum Counter {
+pub enum Full {
     /// A hop count past 255.
     Hops,
     /// A sequence number past 4294967295.

@@ -1,13 +1,16 @@
 //! A few bytes, in an array that is copied whole.
-ghost use Rattle.std.specs.Prelude.{◌≡◌, ◌≤◌, ◌↔◌, [], length, IfSome, IsSome};
+ghost use Rattle.std.specs.Prelude.{◌≡◌, ◌≤◌, ◌↔◌, [], length, take, IfSome, IsSome};
 
-/// At most `CAPACITY` bytes: the first `width` of an array.
+/// At most `CAPACITY` bytes: the first ones of an array, which is copied whole.
 #[derive(Clone, Copy)]
-pub(crate) struct InlineBytes<const CAPACITY: usize> {
+pub struct InlineBytes<const CAPACITY: usize> {
     bytes: [u8; CAPACITY],
     width: usize,
     ghost fits: { width ≤ CAPACITY },
 }
+
+/// A short text: at most 16 bytes.
+pub type ShortText = InlineBytes<16>;
 
 impl<const CAPACITY: usize> Default for InlineBytes<CAPACITY> {
     ghost use Rattle.mesh_base.specs.InlineBytes.{inline_bytes};
@@ -25,9 +28,18 @@ impl<const CAPACITY: usize> Default for InlineBytes<CAPACITY> {
 impl<const CAPACITY: usize> InlineBytes<CAPACITY> {
     ghost use Rattle.mesh_base.specs.InlineBytes.{inline_bytes};
 
+    /// The first `width` bytes of an array.
+    #[inline(always)]
+    pub fn front_of(bytes: [u8; CAPACITY], width: usize) -> Self
+        requires { width ≤ CAPACITY }
+        ensures { inline_bytes result ≡ take width bytes.entry }
+    {
+        InlineBytes { bytes, width }
+    }
+
     /// A copy of b. None if b is too long.
     #[inline]
-    pub(crate) fn of(b: &[u8]) -> Option<Self>
+    pub fn of(b: &[u8]) -> Option<Self>
         ensures value { IfSome result (λ few. inline_bytes few ≡ b.now) }
         ensures when { IsSome result ↔ (length b.now ≤ CAPACITY) }
     {
@@ -42,9 +54,27 @@ impl<const CAPACITY: usize> InlineBytes<CAPACITY> {
         })
     }
 
+    /// How many bytes there are.
+    #[inline(always)]
+    pub fn width(&self) -> usize
+        ensures value { result ≡ length (inline_bytes self.now) }
+        ensures short { result ≤ CAPACITY }
+    {
+        self.width
+    }
+
+    /// The array. The bytes are its first ones; what is behind them is any.
+    #[inline(always)]
+    pub fn whole(&self) -> &[u8; CAPACITY]
+        ensures front { take (length (inline_bytes self.now)) result.now ≡ inline_bytes self.now }
+        ensures long { length result.now ≡ CAPACITY }
+    {
+        &self.bytes
+    }
+
     /// The bytes.
     #[inline]
-    pub(crate) fn as_slice(&self) -> &[u8]
+    pub fn as_slice(&self) -> &[u8]
         ensures value { result.now ≡ inline_bytes self.now }
         ensures short { length result.now ≤ CAPACITY }
     {

@@ -19,14 +19,18 @@ mod text;
 pub use addr::Addr;
 pub use bytes::{Bytes, NoMemory, Room};
 pub use events::{
-    Air, Cast, Counter, Done, Effect, Event, Flying, FlyingView, Item, Kind, Took, Variant,
+    Air, Cast, Done, Effect, Event, Flying, FlyingView, Full, Item, Kind, Took, Variant,
 };
+pub use few::{InlineBytes, ShortText};
 pub use limits::{
     ADDRESS_WIDTH, LINE_CAPACITY, LONGEST_DATUM, LONGEST_INPUT, LONGEST_LINE, LONGEST_PACKET,
     MOST_EVENTS, MOST_NODES, NUMBER_WIDTH,
 };
-pub use line_buf::LineBuf;
+pub use line_buf::{LineBuf, push_array, push_text};
 pub use mesh::{Mesh, MeshError};
-pub use octets::write_dotted;
+pub use octets::{dotted, write_dotted};
 pub use set::NodeSet;
-pub use text::{Packet, are_equal, cut, number_up_to, push_decimal, push_number, push_text};
+pub use text::{
+    Packet, are_equal, cut, four_digits, number_up_to, push_decimal, push_number, short,
+    short_decimal,
+};

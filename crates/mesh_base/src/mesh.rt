@@ -2,9 +2,11 @@
 ghost use Rattle.std.specs.Prelude.{◌≡◌, ◌≤◌, ◌<◌, ◌+◌, ◌++◌, ◌↔◌, ℕ, [], length, None, IsTrue, IsSome, is_some, IsErrOf, OnOk, OnErr, IfSome};
 ghost use Rattle.std.specs.Option.{option_map};
 ghost use Rattle.mesh_base.specs.Addresses.{address_of, dotted_decimal};
+ghost use Rattle.mesh_base.specs.InlineBytes.{inline_bytes};
 ghost use Rattle.mesh_base.specs.Meshes.{Nodes, IsMesh, addr_at, first_at, index_of, index_in, with_node};
 
 use crate::addr::Addr;
+use crate::few::ShortText;
 use crate::limits::{ADDRESS_WIDTH, LINE_CAPACITY, MOST_NODES};
 use crate::line_buf::LineBuf;
 use crate::octets::Stem;
@@ -99,13 +101,22 @@ impl Mesh {
         Addr(self.nodes.as_slice()[i].0)
     }
 
+    /// The address of node i in its written form: at most 15 bytes.
+    #[inline(always)]
+    pub fn name(&self, i: usize) -> ShortText
+        requires { i < length self.now }
+        ensures { inline_bytes result ≡ dotted_decimal (addr_at self.now i) }
+    {
+        self.stem.dotted(self.at(i))
+    }
+
     /// Appends the address of node i in its written form: at most 15 bytes.
     #[inline(always)]
     pub fn push_name(&self, i: usize, out: &mut LineBuf)
         requires node { i < length self.now }
-        requires room { length out.old + ADDRESS_WIDTH ≤ LINE_CAPACITY }
-        ensures text { out.new ≡ out.old ++ dotted_decimal (addr_at self.now i) }
-        ensures length { length out.new ≤ length out.old + ADDRESS_WIDTH }
+        requires room { length out.old.items + ADDRESS_WIDTH ≤ LINE_CAPACITY }
+        ensures text { out.new.items ≡ out.old.items ++ dotted_decimal (addr_at self.now i) }
+        ensures length { length out.new.items ≤ length out.old.items + ADDRESS_WIDTH }
     {
         self.stem.write(self.at(i), out);
     }

@@ -4,11 +4,13 @@ ghost use Rattle.std.specs.Prelude.{◌≡◌, ◌<◌, ◌≤◌, ◌+◌, ◌/
 ghost use Rattle.std.specs.Fmt.{decimal};
 ghost use Rattle.std.specs.Option.{option_map};
 ghost use Rattle.mesh_base.specs.Addresses.{address_of, dotted_decimal};
+ghost use Rattle.mesh_base.specs.InlineBytes.{inline_bytes};
 ghost use Rattle.mesh_base.specs.Stems.{stem_of, IsStem};
 
 use crate::addr::{Addr, octet};
+use crate::few::{InlineBytes, ShortText};
 use crate::limits::{ADDRESS_WIDTH, LINE_CAPACITY};
-use crate::line_buf::LineBuf;
+use crate::line_buf::{LineBuf, push_one_to_four, push_six_to_twelve};
 use crate::text::are_equal;
 
 // The numbers below 256, each with a dot, in chunks of four bytes.
@@ -80,29 +82,29 @@ fn width(n: u32) -> usize
 #[inline]
 fn push_octet_dot(out: &mut LineBuf, n: u32)
     requires octet { n < 256 }
-    requires room { length out.old + 4 ≤ LINE_CAPACITY }
-    ensures text { out.new ≡ out.old ++ (decimal n ++ 46 ∷ []) }
-    ensures length { length out.new ≤ length out.old + 4 }
+    requires room { length out.old.items + 4 ≤ LINE_CAPACITY }
+    ensures text { out.new.items ≡ out.old.items ++ (decimal n ++ 46 ∷ []) }
+    ensures length { length out.new.items ≤ length out.old.items + 4 }
 {
-    out.push_one_to_four(&chunk(n), width(n));
+    push_one_to_four(out, &chunk(n), width(n));
 }
 
 // Appends a number below 256.
 #[inline(always)]
 fn push_octet(out: &mut LineBuf, n: u32)
     requires octet { n < 256 }
-    requires room { length out.old + 3 ≤ LINE_CAPACITY }
-    ensures text { out.new ≡ out.old ++ decimal n }
-    ensures length { length out.new ≤ length out.old + 3 }
+    requires room { length out.old.items + 3 ≤ LINE_CAPACITY }
+    ensures text { out.new.items ≡ out.old.items ++ decimal n }
+    ensures length { length out.new.items ≤ length out.old.items + 3 }
 {
-    out.push_one_to_four(&chunk(n), width(n) - 1);
+    push_one_to_four(out, &chunk(n), width(n) - 1);
 }
 
 /// Appends an address in its written form: at most 15 bytes.
 pub fn write_dotted(a: Addr, out: &mut LineBuf)
-    requires { length out.old + ADDRESS_WIDTH ≤ LINE_CAPACITY }
-    ensures text { out.new ≡ out.old ++ dotted_decimal a.0 }
-    ensures length { length out.new ≤ length out.old + ADDRESS_WIDTH }
+    requires { length out.old.items + ADDRESS_WIDTH ≤ LINE_CAPACITY }
+    ensures text { out.new.items ≡ out.old.items ++ dotted_decimal a.0 }
+    ensures length { length out.new.items ≤ length out.old.items + ADDRESS_WIDTH }
 {
     push_octet_dot(out, a.0 / 16777216);
     push_octet_dot(out, a.0 / 65536 % 256);
@@ -111,6 +113,7 @@ pub fn write_dotted(a: Addr, out: &mut LineBuf)
 }
 
 // Writes a number below 256 and a dot to the cells from `at` on. The result is where they end.
+#[inline(always)]
 fn join(cells: &mut [u8; 16], at: usize, n: u32) -> usize
     requires octet { n < 256 }
     requires room { at ≤ 12 }
@@ -120,6 +123,18 @@ fn join(cells: &mut [u8; 16], at: usize, n: u32) -> usize
 {
     cells[at..at + 4].copy_from_slice(&chunk(n));
     at + width(n)
+}
+
+/// An address in its written form.
+pub fn dotted(a: Addr) -> ShortText
+    ensures { inline_bytes result ≡ dotted_decimal a.0 }
+{
+    let mut cells = [0; 16];
+    let x = join(&mut cells, 0, a.0 / 16777216);
+    let y = join(&mut cells, x, a.0 / 65536 % 256);
+    let z = join(&mut cells, y, a.0 / 256 % 256);
+    let end = join(&mut cells, z, a.0 % 256);
+    InlineBytes::front_of(cells, end - 1)
 }
 
 /// The first three numbers of an address in their written form, each with its dot.
@@ -177,16 +192,29 @@ impl Stem {
         Addr::parse(text)
     }
 
+    /// An address in its written form. If these are its first three numbers, they are copied whole.
+    #[inline(always)]
+    pub(crate) fn dotted(&self, a: Addr) -> ShortText
+        ensures { inline_bytes result ≡ dotted_decimal a.0 }
+    {
+        if a.0 / 256 != self.high {
+            return dotted(a);
+        }
+        let mut cells = self.cells;
+        let end = join(&mut cells, self.width, a.0 % 256);
+        InlineBytes::front_of(cells, end - 1)
+    }
+
     /// Appends an address in its written form. If these are its first three numbers, they are
     /// copied whole.
     #[inline(always)]
     pub(crate) fn write(&self, a: Addr, out: &mut LineBuf)
-        requires { length out.old + ADDRESS_WIDTH ≤ LINE_CAPACITY }
-        ensures text { out.new ≡ out.old ++ dotted_decimal a.0 }
-        ensures length { length out.new ≤ length out.old + ADDRESS_WIDTH }
+        requires { length out.old.items + ADDRESS_WIDTH ≤ LINE_CAPACITY }
+        ensures text { out.new.items ≡ out.old.items ++ dotted_decimal a.0 }
+        ensures length { length out.new.items ≤ length out.old.items + ADDRESS_WIDTH }
     {
         if a.0 / 256 == self.high {
-            out.push_six_to_twelve(&self.cells, self.width);
+            push_six_to_twelve(out, &self.cells, self.width);
             push_octet(out, a.0 % 256);
         } else {
             write_dotted(a, out);

@@ -1,11 +1,13 @@
 //! A packet's buffer, parts of texts, and decimal numbers.
-ghost use Rattle.std.specs.Prelude.{◌≡◌, ◌↔◌, ◌+◌, ◌/◌, ◌%◌, ◌<◌, ◌≤◌, [], ◌∷◌, ◌++◌, length, position, ◌==◌, IfNone, IfSome, IsTrue};
+ghost use Rattle.std.specs.Prelude.{◌≡◌, ◌↔◌, ◌+◌, ◌/◌, ◌%◌, ◌<◌, ◌≤◌, [], ◌∷◌, ◌++◌, length, take, position, ◌==◌, IfNone, IfSome, IsTrue};
 ghost use Rattle.std.specs.Fmt.{decimal};
+ghost use Rattle.mesh_base.specs.InlineBytes.{inline_bytes};
 ghost use Rattle.mesh_base.specs.Parts.{parts, rest_parts};
 ghost use Rattle.mesh_base.specs.Numbers as numbers;
 
+use crate::few::{InlineBytes, ShortText};
 use crate::limits::{LINE_CAPACITY, LONGEST_PACKET, NUMBER_WIDTH};
-use crate::line_buf::LineBuf;
+use crate::line_buf::{LineBuf, push_array};
 use arrayvec::ArrayVec;
 
 /// The bytes of one packet.
@@ -77,14 +79,15 @@ pub fn number_up_to(bytes: &[u8], most: u64) -> Option<u64>
     }
 }
 
-/// Appends a text.
-#[inline]
-pub fn push_text(out: &mut LineBuf, text: &[u8])
-    requires { length out.old + length text.now ≤ LINE_CAPACITY }
-    ensures text { out.new ≡ out.old ++ text.now }
-    ensures length { length out.new ≡ length out.old + length text.now }
+/// A text of a length that is known at compile time, as a short one.
+#[inline(always)]
+pub fn short<const WIDTH: usize>(text: &[u8; WIDTH]) -> ShortText
+    requires { WIDTH ≤ 16 }
+    ensures { inline_bytes result ≡ text.now }
 {
-    out.push_slice(text);
+    let mut bytes = [0; 16];
+    bytes[..WIDTH].copy_from_slice(text);
+    InlineBytes::front_of(bytes, WIDTH)
 }
 
 // The two digits of each number below 100.
@@ -100,15 +103,82 @@ static PAIRS: [[u8; 2]; 100] = [
     *b"96", *b"97", *b"98", *b"99",
 ];
 
+// The two digits of a number below 100.
+#[inline(always)]
+fn pair(n: u32) -> [u8; 2]
+    requires { n < 100 }
+    ensures { result ≡ (48 + n / 10) ∷ (48 + n % 10) ∷ [] }
+{
+    PAIRS[n as usize]
+}
+
+// A number below 10,000 in decimal digits.
+#[inline(always)]
+fn up_to_four(n: u32) -> InlineBytes<4>
+    requires { n < 10000 }
+    ensures { inline_bytes result ≡ decimal n }
+{
+    let [a, b] = pair(n / 100);
+    let [c, d] = pair(n % 100);
+    if n < 10 {
+        InlineBytes::front_of([d, 0, 0, 0], 1)
+    } else if n < 100 {
+        InlineBytes::front_of([c, d, 0, 0], 2)
+    } else if n < 1000 {
+        InlineBytes::front_of([b, c, d, 0], 3)
+    } else {
+        InlineBytes::front_of([a, b, c, d], 4)
+    }
+}
+
+/// A number below 10,000 in four decimal digits, with leading zeros.
+#[inline(always)]
+pub fn four_digits(n: u32) -> [u8; 4]
+    requires { n < 10000 }
+    ensures { result ≡ (48 + n / 100 / 10) ∷ (48 + n / 100 % 10) ∷ (48 + n % 100 / 10)
+        ∷ (48 + n % 100 % 10) ∷ [] }
+{
+    let [a, b] = pair(n / 100);
+    let [c, d] = pair(n % 100);
+    [a, b, c, d]
+}
+
+// Writes four digits to the cells from `at` on.
+#[inline(always)]
+fn join(cells: &mut [u8; 16], at: usize, digits: [u8; 4])
+    requires { at ≤ 12 }
+    ensures { take (at + 4) cells.new ≡ take at cells.old ++ digits }
+{
+    cells[at..at + 4].copy_from_slice(&digits);
+}
+
+/// A number below 100,000,000 in decimal digits.
+#[inline(always)]
+pub fn short_decimal(n: u32) -> ShortText
+    requires { n < 100000000 }
+    ensures { inline_bytes result ≡ decimal n }
+{
+    let mut cells = [0; 16];
+    if n < 10_000 {
+        let all = up_to_four(n);
+        join(&mut cells, 0, *all.whole());
+        return InlineBytes::front_of(cells, all.width());
+    }
+    let high = up_to_four(n / 10_000);
+    join(&mut cells, 0, *high.whole());
+    join(&mut cells, high.width(), four_digits(n % 10_000));
+    InlineBytes::front_of(cells, high.width() + 4)
+}
+
 // Appends the two digits of a number below 100.
 #[inline]
 fn push_pair(out: &mut LineBuf, n: u32)
     requires low { n < 100 }
-    requires room { length out.old + 2 ≤ LINE_CAPACITY }
-    ensures text { out.new ≡ out.old ++ (48 + n / 10) ∷ (48 + n % 10) ∷ [] }
-    ensures length { length out.new ≡ length out.old + 2 }
+    requires room { length out.old.items + 2 ≤ LINE_CAPACITY }
+    ensures text { out.new.items ≡ out.old.items ++ (48 + n / 10) ∷ (48 + n % 10) ∷ [] }
+    ensures length { length out.new.items ≡ length out.old.items + 2 }
 {
-    out.push_array(&PAIRS[n as usize]);
+    push_array(out, &PAIRS[n as usize]);
 }
 
 // Appends a number of one or two digits.
@@ -116,9 +186,9 @@ fn push_pair(out: &mut LineBuf, n: u32)
 #[tactic(auto, using(std::proofs::lemmas::Fmt::decimal_digit, crate::proofs::NumberLaws::two_digits))]
 fn push_low(out: &mut LineBuf, n: u32)
     requires low { n < 100 }
-    requires room { length out.old + length (decimal n) ≤ LINE_CAPACITY }
-    ensures text { out.new ≡ out.old ++ decimal n }
-    ensures length { length out.new ≡ length out.old + length (decimal n) }
+    requires room { length out.old.items + length (decimal n) ≤ LINE_CAPACITY }
+    ensures text { out.new.items ≡ out.old.items ++ decimal n }
+    ensures length { length out.new.items ≡ length out.old.items + length (decimal n) }
 {
     if n < 10 {
         out.push(b'0' + n as u8);
@@ -132,9 +202,9 @@ fn push_low(out: &mut LineBuf, n: u32)
 #[tactic(auto, using(crate::proofs::NumberLaws::appended_hundreds, crate::proofs::NumberLaws::two_longer))]
 pub(crate) fn push_short(out: &mut LineBuf, n: u32)
     requires short { n < 10000 }
-    requires room { length out.old + length (decimal n) ≤ LINE_CAPACITY }
-    ensures text { out.new ≡ out.old ++ decimal n }
-    ensures length { length out.new ≡ length out.old + length (decimal n) }
+    requires room { length out.old.items + length (decimal n) ≤ LINE_CAPACITY }
+    ensures text { out.new.items ≡ out.old.items ++ decimal n }
+    ensures length { length out.new.items ≡ length out.old.items + length (decimal n) }
 {
     if n < 100 {
         push_low(out, n);
@@ -148,10 +218,10 @@ pub(crate) fn push_short(out: &mut LineBuf, n: u32)
 #[inline]
 fn push_four(out: &mut LineBuf, n: u32)
     requires short { n < 10000 }
-    requires room { length out.old + 4 ≤ LINE_CAPACITY }
-    ensures text { out.new ≡ (out.old ++ (48 + n / 100 / 10) ∷ (48 + n / 100 % 10) ∷ [])
+    requires room { length out.old.items + 4 ≤ LINE_CAPACITY }
+    ensures text { out.new.items ≡ (out.old.items ++ (48 + n / 100 / 10) ∷ (48 + n / 100 % 10) ∷ [])
         ++ (48 + n % 100 / 10) ∷ (48 + n % 100 % 10) ∷ [] }
-    ensures length { length out.new ≡ length out.old + 4 }
+    ensures length { length out.new.items ≡ length out.old.items + 4 }
 {
     push_pair(out, n / 100);
     push_pair(out, n % 100);
@@ -160,9 +230,9 @@ fn push_four(out: &mut LineBuf, n: u32)
 /// Appends a number in decimal digits.
 #[tactic(auto, using(crate::proofs::NumberLaws::appended_four, crate::proofs::NumberLaws::four_longer))]
 pub fn push_decimal(out: &mut LineBuf, n: u64)
-    requires { length out.old + length (decimal n) ≤ LINE_CAPACITY }
-    ensures text { out.new ≡ out.old ++ decimal n }
-    ensures length { length out.new ≡ length out.old + length (decimal n) }
+    requires { length out.old.items + length (decimal n) ≤ LINE_CAPACITY }
+    ensures text { out.new.items ≡ out.old.items ++ decimal n }
+    ensures length { length out.new.items ≡ length out.old.items + length (decimal n) }
 {
     if n < 10_000 {
         push_short(out, n as u32);
@@ -178,9 +248,9 @@ pub fn push_decimal(out: &mut LineBuf, n: u64)
 /// Appends a number in decimal digits: at most 20 bytes.
 #[tactic(auto, using(crate::proofs::NumberLaws::at_most_twenty))]
 pub fn push_number(out: &mut LineBuf, n: u64)
-    requires { length out.old + NUMBER_WIDTH ≤ LINE_CAPACITY }
-    ensures text { out.new ≡ out.old ++ decimal n }
-    ensures length { length out.new ≤ length out.old + NUMBER_WIDTH }
+    requires { length out.old.items + NUMBER_WIDTH ≤ LINE_CAPACITY }
+    ensures text { out.new.items ≡ out.old.items ++ decimal n }
+    ensures length { length out.new.items ≤ length out.old.items + NUMBER_WIDTH }
 {
     push_decimal(out, n);
 }

@@ -69,12 +69,12 @@ pub fn do_auto<O: Sink>(
     ensures cause { HasStopCause (O.faults out.old) (O.faults out.new) result }
 {
     at.begin(alloc)?;
-    put_echo(bytes, &mut at.line, out)?;
+    put_echo(bytes, out)?;
     let did = match do_events(alloc, at, below, drafts, count, out) {
         Ok(did) => did,
         Err(stop) => return Err(stop),
     };
-    put_auto_end(did, &mut at.line, out)?;
+    put_auto_end(did, out)?;
     at.count_line();
     Ok(())
 }

@@ -12,7 +12,7 @@ ghost use Rattle.mesh_blocks.specs.Blocks.{changed_by, shown_node};
 ghost use Rattle.mesh_blocks.specs.Lines.{IsBlockBefore};
 
 use crate::draft::Draft;
-use mesh_base::{Done, Event, LineBuf, NoMemory};
+use mesh_base::{Done, Event, NoMemory};
 use mesh_io::{PutFault, Sink};
 use mesh_report::put_line;
 use mesh_run::State;
@@ -83,12 +83,7 @@ fn receiver(world: &World, id: u64) -> Option<usize>
 }
 
 /// Writes a node as a line `show` shows it.
-pub fn put_shown<O: Sink>(
-    state: &State<World>,
-    node: usize,
-    buf: &mut LineBuf,
-    out: &mut O,
-) -> Result<(), PutFault>
+pub fn put_shown<O: Sink>(state: &State<World>, node: usize, out: &mut O) -> Result<(), PutFault>
     requires started { is_some state.now.world ≡ true }
     requires node { node < length state.now.mesh }
     ensures text { Puts (O.held out.old) (O.held out.new) (shown_node state.now node) result }
@@ -98,23 +93,18 @@ pub fn put_shown<O: Sink>(
         unreachable!();
     };
     let world = made.world();
-    put_line(world.mesh(), &Line::Show { node }, buf, out)?;
-    put_node(world.mesh(), world.node(node), buf, out)
+    put_line(world.mesh(), &Line::Show { node }, out)?;
+    put_node(world.mesh(), world.node(node), out)
 }
 
 /// Writes a node's block to the draft, in place of what the draft held.
-pub fn draw_block(
-    state: &State<World>,
-    node: usize,
-    buf: &mut LineBuf,
-    draft: &mut Draft,
-) -> Result<(), NoMemory>
+pub fn draw_block(state: &State<World>, node: usize, draft: &mut Draft) -> Result<(), NoMemory>
     requires started { is_some state.now.world ≡ true }
     requires node { node < length state.now.mesh }
     ensures { OnOk result (draft.new.bytes.items ≡ shown_node state.now node) }
 {
     draft.clear();
-    match put_shown(state, node, buf, draft) {
+    match put_shown(state, node, draft) {
         Ok(()) => Ok(()),
         Err(_) => Err(NoMemory),
     }
@@ -125,7 +115,6 @@ pub fn draw_block(
 pub fn draw_block_before(
     state: &State<World>,
     event: &Event<'_>,
-    buf: &mut LineBuf,
     draft: &mut Draft,
 ) -> Result<(), NoMemory>
     requires started { is_some state.now.world ≡ true }
@@ -136,7 +125,7 @@ pub fn draw_block_before(
         unreachable!();
     };
     match node_of(made.world(), event) {
-        Some(node) => draw_block(state, node, buf, draft),
+        Some(node) => draw_block(state, node, draft),
         None => Ok(()),
     }
 }

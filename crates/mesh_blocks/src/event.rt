@@ -23,8 +23,8 @@ use crate::below::Below;
 use crate::block::{changed_by, draw_block, draw_block_before, put_shown};
 use crate::changes::put_changes;
 use crate::draft::Drafts;
-use mesh_base::{Done, Event, LineBuf, Mesh, NoMemory, Packet};
-use mesh_io::{PutFault, Sink, put_all};
+use mesh_base::{Done, Event, Mesh, NoMemory, Packet, short};
+use mesh_io::{PutFault, Sink};
 use mesh_run::{Point, State, Stop, say_event};
 use mesh_script::Line;
 use mesh_world::{StepError, World};
@@ -54,21 +54,14 @@ impl From<NoMemory> for Unwritten {
 }
 
 // Writes the line that names a node that was changed.
-fn put_changed_line<O: Sink>(
-    mesh: &Mesh,
-    node: usize,
-    buf: &mut LineBuf,
-    out: &mut O,
-) -> Result<(), PutFault>
+fn put_changed_line<O: Sink>(mesh: &Mesh, node: usize, out: &mut O) -> Result<(), PutFault>
     requires { node < length mesh.now }
     ensures text { Puts (O.held out.old) (O.held out.new) (changed_line mesh.now node) result }
     ensures cause { HasCause (O.faults out.old) (O.faults out.new) result }
 {
-    buf.clear();
-    buf.push_slice(b"changed ");
-    mesh.push_name(node, buf);
-    buf.push(b'\n');
-    put_all(out, buf.as_slice())
+    out.put_short(&short(b"changed "))?;
+    out.put_short(&mesh.name(node))?;
+    out.put_short(&short(b"\n"))
 }
 
 // Writes what has changed of a node's block, which was kept as it was before the event.
@@ -76,7 +69,6 @@ fn put_changed<O: Sink>(
     state: &State<World>,
     node: usize,
     drafts: &mut Drafts,
-    buf: &mut LineBuf,
     out: &mut O,
 ) -> Result<(), Unwritten>
     requires started { is_some state.now.world ≡ true }
@@ -86,8 +78,8 @@ fn put_changed<O: Sink>(
     ensures cause { HasCauseIf (IsErrOf result Unwritten.WriteFault)
         (O.faults out.old) (O.faults out.new) }
 {
-    draw_block(state, node, buf, &mut drafts.after)?;
-    put_changed_line(state.mesh(), node, buf, out)?;
+    draw_block(state, node, &mut drafts.after)?;
+    put_changed_line(state.mesh(), node, out)?;
     put_changes(drafts.before.text(), drafts.after.text(), out)?;
     Ok(())
 }
@@ -98,7 +90,6 @@ fn put_below<O: Sink>(
     node: usize,
     below: Below,
     drafts: &mut Drafts,
-    buf: &mut LineBuf,
     out: &mut O,
 ) -> Result<(), Unwritten>
     requires started { is_some state.now.world ≡ true }
@@ -110,10 +101,10 @@ fn put_below<O: Sink>(
 {
     match below {
         Below::Blocks => {
-            put_shown(state, node, buf, out)?;
+            put_shown(state, node, out)?;
             Ok(())
         }
-        Below::Changes => put_changed(state, node, drafts, buf, out),
+        Below::Changes => put_changed(state, node, drafts, out),
     }
 }
 
@@ -126,7 +117,6 @@ fn put_watched<O: Sink>(
     done: &Done,
     packet: &Packet,
     drafts: &mut Drafts,
-    buf: &mut LineBuf,
     out: &mut O,
 ) -> Result<(), Unwritten>
     requires started { is_some state.now.world ≡ true }
@@ -144,9 +134,9 @@ fn put_watched<O: Sink>(
         (O.faults out.old) (O.faults out.new) }
 {
     let mesh = state.mesh();
-    say_event(mesh, bytes, event, done, packet, buf, out)?;
+    say_event(mesh, bytes, event, done, packet, out)?;
     match changed_by(event, done) {
-        Some(node) => put_below(state, node, below, drafts, buf, out),
+        Some(node) => put_below(state, node, below, drafts, out),
         None => Ok(()),
     }
 }
@@ -156,7 +146,6 @@ fn keep_block(
     state: &State<World>,
     below: Below,
     event: &Event<'_>,
-    buf: &mut LineBuf,
     drafts: &mut Drafts,
 ) -> Result<(), NoMemory>
     requires started { is_some state.now.world ≡ true }
@@ -166,7 +155,7 @@ fn keep_block(
 {
     match below {
         Below::Blocks => Ok(()),
-        Below::Changes => draw_block_before(state, event, buf, &mut drafts.before),
+        Below::Changes => draw_block_before(state, event, &mut drafts.before),
     }
 }
 
@@ -190,21 +179,13 @@ pub fn do_event<'a, O: Sink>(
     ensures run_state { OnOk result (at.new ≡ next_state at.old (event_of event.entry)) }
     ensures cause { HasStopCause (O.faults out.old) (O.faults out.new) result }
 {
-    keep_block(&at.state, below, &event, &mut at.line, drafts)?;
+    keep_block(&at.state, below, &event, drafts)?;
     let state = &mut at.state;
     let answer = state.step_made(alloc, &event, &mut at.packet);
     match &answer {
         Ok(done) => {
             match put_watched(
-                &at.state,
-                below,
-                bytes,
-                &event,
-                done,
-                &at.packet,
-                drafts,
-                &mut at.line,
-                out,
+                &at.state, below, bytes, &event, done, &at.packet, drafts, out,
             ) {
                 Ok(()) => Ok(()),
                 Err(Unwritten::WriteFault) => Err(Stop::WriteFault),

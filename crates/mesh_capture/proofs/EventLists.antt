@@ -1,6 +1,6 @@
 -- Events one after another, as they are written, are read from a state to the state after them.
 use Rattle.std.proofs.Common.{◌≡◌, ℕ, ◌+◌, ◌≤◌, true, false, List, [], ◌∷◌, ◌++◌, Option, Some, None, length, length-append, refl, sym, ap, ◌∙◌, subst, arith}
-use Rattle.mesh_base.specs.declared.events.Counter.{Counter}
+use Rattle.mesh_base.specs.declared.events.Full.{Full as Counter}
 use Rattle.mesh_base.specs.Meshes.{Nodes}
 use Rattle.std.specs.Prelude.{slice_get}
 use Rattle.aodv_model.proofs.Entries.{if_case}

@@ -9,7 +9,7 @@ use Rattle.aodv_model.specs.Cores.{Core, Item, New, Heard, Message, Pkt, Rreq, R
 use Rattle.aodv_model.specs.Fullness.{turn_full, send_full, ask_full}
 use Rattle.aodv_model.specs.Handlers.{Reaction, Effect, Own, Stored, turn, send, ask, took, may_send, may_ask}
 use Rattle.aodv_model.specs.Soundness.{IsItemInMesh, IsCastInMesh, IsAimed}
-use Rattle.mesh_base.specs.declared.events.Counter.{Counter}
+use Rattle.mesh_base.specs.declared.events.Full.{Full as Counter}
 use Rattle.mesh_base.specs.Meshes.{Nodes, IsMesh, addr_at}
 use Rattle.mesh_grammar.specs.Commands.{greatest_id}
 use Rattle.mesh_grammar.specs.Written.{line}

@@ -5,7 +5,7 @@ use Rattle.aodv_model.proofs.Entries.{if_case}
 use Rattle.aodv_model.specs.Cores.{Core, Item, New, Heard}
 use Rattle.aodv_model.specs.Fullness.{turn_full, send_full, ask_full}
 use Rattle.aodv_model.specs.Handlers.{Reaction, Effect, turn, send, ask, took, may_send, may_ask}
-use Rattle.mesh_base.specs.declared.events.Counter.{Counter}
+use Rattle.mesh_base.specs.declared.events.Full.{Full as Counter}
 use Rattle.mesh_base.specs.Meshes.{Nodes}
 use Rattle.mesh_grammar.specs.Written.{line, label_number}
 use Rattle.mesh_meaning.specs.Events.{node_of}

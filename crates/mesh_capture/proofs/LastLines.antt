@@ -10,8 +10,8 @@ use Rattle.std.proofs.lemmas.List.{get_or_default}
 use Rattle.std.proofs.lemmas.List.Elements.{All-append}
 use Rattle.std.proofs.lemmas.List.Splits.{join_with_byte-slice_split}
 use Rattle.std.proofs.lemmas.Str.Parse.{numerals_by_value, tells_by_index}
-use Rattle.mesh_base.specs.declared.events.Counter as full
-use Rattle.mesh_base.specs.declared.events.Counter.TheVariants as field
+use Rattle.mesh_base.specs.declared.events.Full as full
+use Rattle.mesh_base.specs.declared.events.Full.TheVariants as field
 use Rattle.mesh_base.specs.Meshes.{Nodes, IsMesh, addr_at}
 use Rattle.mesh_base.specs.Parts.{parts}
 use Rattle.mesh_base.proofs.WrittenForms.{Lacks, one_lacks, parts_at, parts_none}
@@ -76,17 +76,17 @@ place_is n some le =
     ap (are (Line ∷ Positive greatest_id ∷ [])) (words_apart (codes "line") (decimal n ∷ []) (word_lacks 32 (codes "line") refl, (number_lacks 32 n (omega arith) le, tt)))
     ∙ one_is (Positive greatest_id) (decimal n) (positive_fits greatest_id n some le (omega arith))
 
-counter_is : (f : full.Counter) → is_counter (32 ∷ field_text f) ≡ true
+counter_is : (f : full.Full) → is_counter (32 ∷ field_text f) ≡ true
 counter_is field.Hops = refl
 counter_is field.Number = refl
 counter_is field.Id = refl
 
-counter_whole : (f : full.Counter) → Lacks 58 (32 ∷ field_text f)
+counter_whole : (f : full.Full) → Lacks 58 (32 ∷ field_text f)
 counter_whole field.Hops = word_lacks 58 (codes " hops") refl
 counter_whole field.Number = word_lacks 58 (codes " number") refl
 counter_whole field.Id = word_lacks 58 (codes " id") refl
 
-counter_clean : (f : full.Counter) → is_clean (field_text f) ≡ true
+counter_clean : (f : full.Full) → is_clean (field_text f) ≡ true
 counter_clean field.Hops = refl
 counter_clean field.Number = refl
 counter_clean field.Id = refl
@@ -127,7 +127,7 @@ module _ (mesh : Nodes) (is : IsMesh mesh) where
   event_clean (Ask x d) may = clean_append (name_of mesh x) (32 ∷ name_of mesh d) (name_clean mesh x) (name_clean mesh d)
   event_clean others may = absurd may
 
-  pub full_reads : (a : Stand) (n : ℕ) (e : Event) (f : full.Counter) → MayCast e → 1 ≤ n → n ≤ greatest_id → Reads mesh a (full_line mesh n e f) [] (with_below a below.Nothing)
+  pub full_reads : (a : Stand) (n : ℕ) (e : Event) (f : full.Full) → MayCast e → 1 ≤ n → n ≤ greatest_id → Reads mesh a (full_line mesh n e f) [] (with_below a below.Nothing)
   unfolding full_line
   full_reads a n e f may some le =
       let rest : List ℕ = codes "line " ++ decimal n ++ codes ": " ++ event_words mesh e ++ codes ": " ++ field_text f in

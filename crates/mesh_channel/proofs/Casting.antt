@@ -5,7 +5,7 @@ use Rattle.mesh_base.specs.Meshes.{Nodes}
 use Rattle.mesh_base.specs.Members.{member_list, members_below}
 use Rattle.mesh_base.proofs.Ranks.{members-size, members_few}
 use Rattle.mesh_base.specs.declared.limits.TheConstants.{MOST_NODES}
-use Rattle.mesh_base.specs.declared.events.Counter.{Counter}
+use Rattle.mesh_base.specs.declared.events.Full.{Full as Counter}
 use Rattle.mesh_base.specs.declared.events.Air.{Air}
 use Rattle.mesh_base.specs.declared.events.Cast.{Cast as CastGiven}
 use Rattle.mesh_base.specs.declared.events.Cast.TheVariants as given

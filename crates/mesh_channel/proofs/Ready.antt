@@ -2,7 +2,7 @@
 use Rattle.std.proofs.Common.{◌≡◌, ◌≢◌, ◌⊎◌, inl, inr, ℕ, zero, suc, ◌+◌, ◌<◌, ◌≤◌, eqb, Bool, true, false, cond, not, List, [], ◌∷◌, ◌++◌, filter, length, Option, Some, None, is_some, refl, sym, ap, subst, ◌∙◌, arith}
 use Rattle.std.specs.Prelude.{slice_get}
 use Rattle.std.proofs.lemmas.Bool.{eqb-false, eqb-true, cases_lt}
-use Rattle.mesh_base.specs.declared.events.Counter.{Counter}
+use Rattle.mesh_base.specs.declared.events.Full.{Full as Counter}
 use Rattle.mesh_base.specs.Members.{members_below}
 use Rattle.aodv_model.specs.Cores.{Item, New, Heard, Core}
 use Rattle.aodv_model.specs.Handlers.{Cast, Nothing, One, Many, All, Reaction, turn, send, may_send, ask, may_ask}

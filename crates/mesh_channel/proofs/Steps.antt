@@ -1,7 +1,7 @@
 -- How many copies an event makes, and what numbers copies have.
 use Rattle.std.proofs.Common.{◌≡◌, ℕ, zero, suc, ◌+◌, ◌*◌, ◌<◌, ◌≤◌, ◌&&◌, eqb, Bool, true, false, cond, List, [], ◌∷◌, ◌++◌, length, length-append, Option, Some, None, is_some, refl, sym, ap, subst, ◌∙◌, arith}
 use Rattle.std.specs.Prelude.{slice_get}
-use Rattle.mesh_base.specs.declared.events.Counter.{Counter}
+use Rattle.mesh_base.specs.declared.events.Full.{Full as Counter}
 use Rattle.mesh_base.specs.Members.{NodeIds, members_below}
 use Rattle.mesh_base.proofs.Ranks.{members_few}
 use Rattle.aodv_model.specs.Cores.{Item, New, Heard, Core, Message}

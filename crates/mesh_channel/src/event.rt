@@ -22,7 +22,7 @@ ghost use Rattle.mesh_channel.specs.Room.{HasFewCopies};
 ghost use Rattle.mesh_base.specs.Members.{member_list};
 
 use crate::channeled::Channeled;
-use mesh_base::{Air, Cast, Done, Effect, Event, LineBuf, Mesh, NoMemory, Packet};
+use mesh_base::{Air, Cast, Done, Effect, Event, Mesh, NoMemory, Packet};
 use mesh_fates::{Channel, Rates};
 use mesh_io::{PutFault, Sink};
 use mesh_run::{Stop, say_event};
@@ -36,7 +36,6 @@ fn say_if<O: Sink>(
     event: &Event<'_>,
     done: &Done,
     packet: &Packet,
-    buf: &mut LineBuf,
     out: &mut O,
 ) -> Result<(), PutFault>
     requires printable { IsPrintable mesh.now (Line.Step event.now) }
@@ -50,7 +49,7 @@ fn say_if<O: Sink>(
     if !say {
         return Ok(());
     }
-    say_event(mesh, bytes, event, done, packet, buf, out)
+    say_event(mesh, bytes, event, done, packet, out)
 }
 
 /// Does an event once the run has started and, if `at.say` asks for it, writes it: as its line was
@@ -85,16 +84,7 @@ pub fn do_event<'a, O: Sink>(
         Ok(done) => {
             let mesh = point.state.mesh();
             let packet = &point.packet;
-            match say_if(
-                say,
-                mesh,
-                bytes,
-                &event,
-                &done,
-                packet,
-                &mut point.line,
-                out,
-            ) {
+            match say_if(say, mesh, bytes, &event, &done, packet, out) {
                 Ok(()) => Ok(done),
                 Err(_) => Err(Stop::WriteFault),
             }

@@ -5,13 +5,11 @@
 //! status of the answer.
 #![tactic(auto)]
 
-mod memory;
 mod schedule;
 mod top;
 mod trial;
 mod words;
 
-use crate::memory::Memory;
 use mesh_io::{StdSink, StdSource};
 use mesh_run::Status;
 use mesh_shell::{texts_of, words_of};
@@ -24,8 +22,7 @@ fn status_of(rt: &HostRuntime) -> Result<Status, Status> {
     let texts = texts_of(rt.alloc(), &words)?;
     let mut input = StdSource::new(rt.stdin());
     let mut out = StdSink::new(io::writer(rt));
-    let memory = Memory::LeaveToProcess;
-    Ok(top::mesh(rt.alloc(), &texts, &mut input, &mut out, memory))
+    Ok(top::mesh(rt.alloc(), &texts, &mut input, &mut out))
 }
 
 fn main(rt: HostRuntime) -> ExitCode {

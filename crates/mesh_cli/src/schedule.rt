@@ -5,12 +5,12 @@ ghost use Rattle.mesh_text.specs.Schedule.{opening};
 ghost use Rattle.mesh_run.specs.Causes.{HasStatusCause, HasSourceCause};
 ghost use Rattle.mesh_run.specs.Outputs.{say_by, IsOutputFrom};
 
-use crate::memory::Memory;
 use mesh_base::Variant;
 use mesh_io::{Sink, Source};
 use mesh_run::{Point, Running, Say, Status, do_input};
 use mesh_world::World;
 use std::alloc::Global;
+use std::mem::forget;
 
 /// Runs the schedule that the source gives, with all nodes running this variant of the protocol,
 /// and writes its text, or only the last line if `quiet`.
@@ -21,7 +21,6 @@ pub fn run_schedule<I: Source, O: Sink>(
     variant: Variant,
     input: &mut I,
     out: &mut O,
-    memory: Memory,
 ) -> Status
     ensures known { IfSome (I.left input.old) (λ bytes. IsOutputFrom (say_by quiet)
         (opening variant) bytes (I.left input.new) (O.held out.old) (O.held out.new) result) }
@@ -36,6 +35,6 @@ pub fn run_schedule<I: Source, O: Sink>(
         say: Say::by(quiet),
     };
     let status = do_input(&mut running, input, out);
-    memory.end(running);
+    forget(running);
     status
 }

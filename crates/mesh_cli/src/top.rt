@@ -5,7 +5,6 @@ ghost use Rattle.mesh_run.specs.Causes.{HasStatusCause, HasSourceCause};
 ghost use Rattle.mesh_cli.specs.Words.{command_of, IsAllowed, IsPlan};
 ghost use Rattle.mesh_cli.specs.Commands.{IsCommandRun, IsWritten, Completes, IsReadBy, reads, made_by};
 
-use crate::memory::Memory;
 use crate::schedule::run_schedule;
 use crate::trial::trial;
 use crate::words::{Command, Plan, command_of};
@@ -33,7 +32,6 @@ fn do_command<I: Source, O: Sink>(
     command: Command,
     input: &mut I,
     out: &mut O,
-    memory: Memory,
 ) -> Status
     requires { IsAllowed command }
     ensures known { IsCommandRun command (I.left input.old) (I.left input.new)
@@ -46,9 +44,9 @@ fn do_command<I: Source, O: Sink>(
     ensures words { result ≢ Status.Usage }
 {
     match command {
-        Command::Run { variant, quiet } => run_schedule(alloc, quiet, variant, input, out, memory),
+        Command::Run { variant, quiet } => run_schedule(alloc, quiet, variant, input, out),
         Command::Make(plan) => make_schedule(plan, out),
-        Command::Trial { variant, plan } => trial(alloc, variant, plan, out, memory),
+        Command::Trial { variant, plan } => trial(alloc, variant, plan, out),
     }
 }
 
@@ -58,15 +56,9 @@ fn do_command<I: Source, O: Sink>(
 /// With `run --variant NAME` and `trial --variant NAME` all nodes run that variant of the protocol.
 /// What `run` writes is gathered in a buffer of 65536 bytes, and handed on when that is full,
 /// before each read of the source, and at the end, unless a write has failed. `make` writes some
-/// 8000 bytes at a time, and takes no memory. The memory of a run is given back at its end, or left
-/// to a process that ends with this call.
-pub fn mesh<I: Source, O: Sink>(
-    alloc: Global,
-    words: &[&str],
-    input: &mut I,
-    out: &mut O,
-    memory: Memory,
-) -> Status
+/// 8000 bytes at a time, and takes no memory. The memory of a run is left to the process, which is
+/// to end after this call.
+pub fn mesh<I: Source, O: Sink>(alloc: Global, words: &[&str], input: &mut I, out: &mut O) -> Status
     // If the words are in none of the program's forms, nothing is read or written.
     ensures usage_exactly_for_other_words { (result ≡ Status.Usage)
         ↔ (command_of (map (λ w. w.now) words.now) ≡ None) }
@@ -109,7 +101,7 @@ pub fn mesh<I: Source, O: Sink>(
         → Completes command (I.left input.old) result) }
 {
     match command_of(words) {
-        Some(command) => do_command(alloc, command, input, out, memory),
+        Some(command) => do_command(alloc, command, input, out),
         None => Status::Usage,
     }
 }

@@ -12,7 +12,6 @@ ghost use Rattle.mesh_run.specs.Outputs.{part, IsOutput};
 ghost use Rattle.mesh_cli.specs.Words.{IsPlan};
 ghost use Rattle.mesh_cli.specs.Commands.{made_by};
 
-use crate::memory::Memory;
 use crate::words::Plan;
 use mesh_base::{LineBuf, Variant};
 use mesh_io::Sink;
@@ -22,6 +21,7 @@ use mesh_shell::Fault;
 use mesh_text::Verdict;
 use mesh_world::World;
 use std::alloc::Global;
+use std::mem::forget;
 
 // Does the lines that are still to be made, and writes the last line of their text.
 fn do_made<O: Sink>(
@@ -55,13 +55,7 @@ fn do_made<O: Sink>(
 /// Runs a made schedule, with all nodes running this variant of the protocol, and writes the last
 /// line of its text. The lines are run as values, and none is written or read.
 #[inline(never)]
-pub fn trial<O: Sink>(
-    alloc: Global,
-    variant: Variant,
-    plan: Plan,
-    out: &mut O,
-    memory: Memory,
-) -> Status
+pub fn trial<O: Sink>(alloc: Global, variant: Variant, plan: Plan, out: &mut O) -> Status
     requires { IsPlan plan }
     ensures written { IsOutput (O.held out.old) (O.held out.new)
         (part Last (text_of_input variant (made_by plan))) result }
@@ -72,6 +66,6 @@ pub fn trial<O: Sink>(
     let mut at: Point<World> = Point::with(variant);
     let mut maker = Maker::new(plan.seed, plan.nodes, plan.steps);
     let answer = do_made(alloc, &mut at, &mut maker, out);
-    memory.end(at);
+    forget(at);
     Status::of(answer)
 }

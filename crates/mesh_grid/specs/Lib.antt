@@ -3,8 +3,8 @@
 pub mod Places
 -- Lines: the lines that put a node at a place.
 pub mod Lines
--- Links: which nodes are within reach of each other, and the links that are made and cut when a node
--- comes to a place.
+-- Links: which nodes are within reach of each other, and the links that are made and cut when a
+-- node comes to a place.
 pub mod Links
 -- Text: the text of a run with places, and its verdict.
 pub mod Text

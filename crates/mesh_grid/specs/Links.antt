@@ -23,8 +23,8 @@ is_in_reach reach places a b =
 
 -- ---- changes
 
--- the link between x and y, the smaller first, is made if the two are within reach of each other and
--- the link doesn't stand; it is cut if it stands and they aren't
+-- the link between x and y, the smaller first, is made if the two are within reach of each other
+-- and the link doesn't stand; it is cut if it stands and they aren't
 abbrev pub change : (in_reach stands : Bool) → ℕ → ℕ → List Event
 change true false x y = Link (min x y) (max x y) ∷ []
 change false true x y = Cut (min x y) (max x y) ∷ []

@@ -5,13 +5,17 @@ use Rattle.mesh_base.specs.declared.limits.TheConstants.{LONGEST_LINE, LONGEST_I
 use Rattle.mesh_io.specs.declared.limits.Limits.{Limits}
 use Rattle.mesh_io.specs.declared.limits.TheConstants.{LONGEST_TEXT_LINE, LONGEST_TEXT}
 
+-- the limits of a line and of an input, each in bytes
+abbrev pub limits_of : ℕ → ℕ → Limits
+limits_of line input = record { line = line; input = input }
+
 -- the limits of a schedule
 abbrev pub schedule_limits : Limits
-schedule_limits = record { line = LONGEST_LINE; input = LONGEST_INPUT }
+schedule_limits = limits_of LONGEST_LINE LONGEST_INPUT
 
 -- the limits of a printed text
 abbrev pub text_limits : Limits
-text_limits = record { line = LONGEST_TEXT_LINE; input = LONGEST_TEXT }
+text_limits = limits_of LONGEST_TEXT_LINE LONGEST_TEXT
 
 -- the bytes before the first LF, whether there is one, and the bytes after it
 pub record FirstLine : Type 0 where

@@ -2,15 +2,17 @@
 ghost use Rattle.std.specs.Prelude.{◌≡◌, ◌≤◌, ◌<◌, ◌+◌, ◌-◌, ℕ, List, length, [], ◌++◌, take, min, Ok, IsOk, IfOk, OnOk, OnErr};
 ghost use Rattle.std.specs.Io.KnownBytes.{Keeps, WriteAppends};
 ghost use Rattle.mesh_io.specs.Cause.{HasCause};
-ghost use Rattle.mesh_io.specs.Puts.{AppendsPrefix};
+ghost use Rattle.mesh_base.specs.InlineBytes.{inline_bytes};
+ghost use Rattle.mesh_io.specs.Puts.{AppendsPrefix, Puts};
 ghost use Rattle.mesh_io.specs.Buffering.{inner_of, gathered_in, held_by, HandsOn};
 ghost use Rattle.mesh_io.specs.BufferSize.{buffer_size};
 
 use crate::put::{PutFault, put_prefix};
-use crate::reserved_buffer::ReservedBuffer;
+use crate::reserved_buffer::{ReservedBuffer, WHOLE};
 use crate::sink::Sink;
 use crate::source::Failed;
 use crate::through::{Loan, Through};
+use mesh_base::ShortText;
 
 /// A sink that gathers the pieces put into it, and hands them on to another sink, many at a time.
 /// All its memory is taken before it is made. What isn't flushed before it is dropped is lost.
@@ -55,6 +57,20 @@ impl<S: Sink> Buffered<S> {
         Ok(())
     }
 
+    // Hands on what is gathered if there is no room for a short text.
+    #[inline(always)]
+    fn make_room(&mut self) -> Result<(), PutFault>
+        ensures room { OnOk result (length (gathered_in self.new) + WHOLE ≤ buffer_size) }
+        ensures held { Keeps (held_by S.held self.old) (held_by S.held self.new) }
+        ensures cause { HasCause (S.faults (inner_of self.old))
+            (S.faults (inner_of self.new)) result }
+    {
+        if self.gathered.fits_short() {
+            return Ok(());
+        }
+        self.flush()
+    }
+
     /// The inner sink. What is gathered is lost, so flush first.
     pub fn into_inner(self) -> S
         ensures { result ≡ inner_of self }
@@ -91,6 +107,18 @@ impl<S: Sink> Sink for Buffered<S> {
             return Err(Failed);
         }
         Ok(self.gathered.gather(piece))
+    }
+
+    #[inline(always)]
+    fn put_short(&mut self, text: &ShortText) -> Result<(), PutFault>
+        ensures text { Puts (held_by S.held self.old) (held_by S.held self.new)
+            (inline_bytes text.now) result }
+        ensures cause { HasCause (S.faults (inner_of self.old))
+            (S.faults (inner_of self.new)) result }
+    {
+        self.make_room()?;
+        self.gathered.gather_short(text);
+        Ok(())
     }
 }
 

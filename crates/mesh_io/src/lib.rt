@@ -27,7 +27,7 @@ pub use calls::Calls;
 pub use cutter::{Cutter, SCHEDULE_CAPACITY, TEXT_CAPACITY};
 pub use limits::{LONGEST_TEXT, LONGEST_TEXT_LINE, Limits};
 pub use line_error::LineError;
-pub use lines::Lines;
+pub use lines::{Lines, LinesWithin, LongLines};
 pub use mem_sink::MemSink;
 pub use mem_source::MemSource;
 pub use put::{PutFault, put_all};

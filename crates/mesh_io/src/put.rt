@@ -33,7 +33,7 @@ pub fn put_prefix<O: Sink>(out: &mut O, piece: &[u8]) -> usize
 
 // Writes the whole piece, or a prefix of it if the sink fails, in as many calls as that takes.
 #[inline(never)]
-fn put_in_parts<O: Sink>(out: &mut O, piece: &[u8]) -> Result<(), PutFault>
+pub(crate) fn put_in_parts<O: Sink>(out: &mut O, piece: &[u8]) -> Result<(), PutFault>
     ensures text { Puts (O.held out.old) (O.held out.new) piece.now result }
     ensures cause { HasCause (O.faults out.old) (O.faults out.new) result }
 {

@@ -1,13 +1,17 @@
 //! Memory in which bytes are gathered.
-ghost use Rattle.std.specs.Prelude.{◌≡◌, ◌≤◌, ◌-◌, ◌↔◌, ◌++◌, [], length, take, drop, min, IfOk, IsTrue};
+ghost use Rattle.std.specs.Prelude.{◌≡◌, ◌≤◌, ◌+◌, ◌-◌, ◌↔◌, ◌++◌, [], length, take, drop, min, IfOk, IsTrue};
+ghost use Rattle.mesh_base.specs.InlineBytes.{inline_bytes};
 ghost use Rattle.mesh_io.specs.BufferSize.{buffer_size};
 
-use mesh_base::NoMemory;
+use mesh_base::{NoMemory, ShortText};
 use std::alloc::Global;
 use std::marker::Model;
 
 /// How many bytes a buffer has room for.
 const SIZE: usize = 65536;
+
+/// How many bytes the array of a short text has.
+pub(crate) const WHOLE: usize = 16;
 
 /// Memory for 65536 bytes. In contracts it is the bytes that are gathered in it.
 #[derive(Drop)]
@@ -65,6 +69,28 @@ impl ReservedBuffer {
         self.cells[self.len..end].copy_from_slice(&piece[..n]);
         self.len = end;
         n
+    }
+
+    /// Whether there is room for the whole array of a short text.
+    #[inline(always)]
+    pub(crate) fn fits_short(&self) -> bool
+        ensures { IsTrue result ↔ (length self.now + WHOLE ≤ buffer_size) }
+    {
+        WHOLE <= SIZE - self.len
+    }
+
+    /// Gathers a short text. Its whole array is copied, since the size of that is known at compile
+    /// time; what is behind the text in it isn't gathered.
+    #[inline(always)]
+    pub(crate) fn gather_short(&mut self, text: &ShortText)
+        requires { length self.old + WHOLE ≤ buffer_size }
+        ensures { self.new ≡ self.old ++ inline_bytes text.now }
+    {
+        let end = self.len + WHOLE;
+        // Copied first: otherwise the compiler has to assume that the text may lie in the cells.
+        let bytes = *text.whole();
+        self.cells[self.len..end].copy_from_slice(&bytes);
+        self.len += text.width();
     }
 
     /// Removes the first n bytes.

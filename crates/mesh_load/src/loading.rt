@@ -56,9 +56,10 @@ fn restore(alloc: Global, body: &[u8]) -> Result<State<World>, StateError>
     }
 }
 
-/// The one plain run state whose checkpoint these bytes are; or the first refusal that applies.
-/// Nothing asks for memory before it is known that the bytes are a checkpoint with balanced sums.
-pub fn load(alloc: Global, b: &[u8]) -> Result<State<World>, StateError>
+// `load` without a run's buffers. It isn't inlined: its frame, with the parts from which a state is
+// made, would take stack beside a whole point.
+#[inline(never)]
+fn load_state(alloc: Global, b: &[u8]) -> Result<State<World>, StateError>
     ensures exact { MatchResult result (λ p. IsState b.now p) (λ e. IsRefused b.now e) }
     ensures plain { IfOk result IsPlainRunState }
     ensures unrefused { IfOk result (λ _. (e : StateError) → IsRefused b.now e
@@ -74,4 +75,21 @@ pub fn load(alloc: Global, b: &[u8]) -> Result<State<World>, StateError>
     // Its contract says that the bytes are a checkpoint. The number of data isn't needed.
     let _data = validate(b)?;
     restore(alloc, &b[8..])
+}
+
+/// The one plain run state whose checkpoint these bytes are, at which a run can go on; or the first
+/// refusal that applies. Nothing asks for memory before it is known that the bytes are a checkpoint
+/// with balanced sums.
+pub fn load(alloc: Global, b: &[u8]) -> Result<Point<World>, StateError>
+    ensures exact { MatchResult result (λ p. IsState b.now p) (λ e. IsRefused b.now e) }
+    ensures plain { IfOk result IsPlainRunState }
+    ensures unrefused { IfOk result (λ _. (e : StateError) → IsRefused b.now e
+        → e ≡ StateError.NoMemory) }
+    ensures lines { IfOk result (λ p. p.lines < SUMS_END) }
+    ensures steps { IfOk result (λ p. p.steps ≤ MOST_STEPS) }
+{
+    let state = load_state(alloc, b)?;
+    let mut at = Point::start();
+    at.state = state;
+    Ok(at)
 }

@@ -158,11 +158,11 @@ impl Maker {
     fn push_next(&mut self, text: &mut LineBuf, out: &mut LineBuf)
         requires making { IsMaking self.old }
         requires more { is_done self.old ≡ false }
-        requires room { length out.old + LONGEST_LINE ≤ LINE_CAPACITY }
-        ensures text { out.old ++ still_to_come self.old
-            ≡ out.new ++ still_to_come self.new }
-        ensures longer { length out.old < length out.new }
-        ensures length { length out.new ≤ length out.old + LONGEST_LINE }
+        requires room { length out.old.items + LONGEST_LINE ≤ LINE_CAPACITY }
+        ensures text { out.old.items ++ still_to_come self.old
+            ≡ out.new.items ++ still_to_come self.new }
+        ensures longer { length out.old.items < length out.new.items }
+        ensures length { length out.new.items ≤ length out.old.items + LONGEST_LINE }
         ensures making { IsMaking self.new }
     {
         let line = line_at(self.size, self.stage, &mut self.rng, text);
@@ -177,8 +177,8 @@ impl Maker {
     pub fn next_lines(&mut self, text: &mut LineBuf, out: &mut LineBuf)
         requires making { IsMaking self.old }
         requires more { is_done self.old ≡ false }
-        ensures text { still_to_come self.old ≡ out.new ++ still_to_come self.new }
-        ensures some { 0 < length out.new }
+        ensures text { still_to_come self.old ≡ out.new.items ++ still_to_come self.new }
+        ensures some { 0 < length out.new.items }
         ensures making { IsMaking self.new }
     {
         out.clear();

@@ -28,20 +28,21 @@ impl Model for MadeSource {
 
     ghost Value = { List ℕ };
 
-    ghost view = { λ s. unread_text s.maker s.line s.at };
+    ghost view = { λ s. unread_text s.maker s.line.items s.at };
 
-    ghost invariant = { λ s. (s.at ≤ length s.line) × IsMaking s.maker };
+    ghost invariant = { λ s. (s.at ≤ length s.line.items) × IsMaking s.maker };
 }
 
 // Makes the next lines if the present ones have been read to their end. Returns how many bytes of
 // the lines in `line` are read. The text of a datum is made in `text`.
 fn refill(maker: &mut Maker, text: &mut LineBuf, line: &mut LineBuf, at: usize) -> usize
     requires making { IsMaking maker.old }
-    requires within { at ≤ length line.old }
-    ensures same { unread_text maker.new line.new result ≡ unread_text maker.old line.old at }
-    ensures within { result ≤ length line.new }
+    requires within { at ≤ length line.old.items }
+    ensures same { unread_text maker.new line.new.items result
+        ≡ unread_text maker.old line.old.items at }
+    ensures within { result ≤ length line.new.items }
     ensures making { IsMaking maker.new }
-    ensures end { result ≡ length line.new → still_to_come maker.new ≡ [] }
+    ensures end { result ≡ length line.new.items → still_to_come maker.new ≡ [] }
 {
     if at < line.len() || maker.is_done() {
         return at;

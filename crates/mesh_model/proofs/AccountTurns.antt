@@ -10,7 +10,7 @@ use Rattle.aodv_model.proofs.Entries.{if_case}
 use Rattle.aodv_model.specs.Cores.{Body, Core, Heard, Item, Message, New, Pkt, Rerr, RouteReply, RouteRequest, Rrep, Rreq, add, bodies_in, has_data, has_seen, rest}
 use Rattle.aodv_model.specs.Handlers.{All, Cast, Many, Nothing, One, Own, Reaction, Stored, after_hearing, after_reply, after_request, ask, broken_by, can_answer, casting, is_stale, data_error, delivering, drop_if_sent, error_cast, first_body, forward_own_entry, forward_reply, forward_request, is_empty, is_error, join_answer_precursors, join_reply_precursors, key_of, link_broken, losing, losing_if_broken, may_send, on_message, on_new, on_new_rreq, on_pkt, on_rerr, on_rrep, on_rreq, one, only, plain, precs_of, reply_for_self, reply_from_table, reply_on, retract, route_entry, send, took, turn, unicast, with_precs}
 use Rattle.aodv_model.specs.Soundness.{IsItemInMesh}
-use Rattle.aodv_model.specs.Tables.{Dests, Table, accepted_unreachable, dhops, in_vD, nhop, sqn, unreachable_by}
+use Rattle.aodv_model.specs.Tables.{Dests, Table, dests_of, accepted_unreachable, dhops, in_vD, nhop, sqn, unreachable_by}
 use Rattle.mesh_base.specs.Members.{NodeIds}
 use Rattle.mesh_base.specs.declared.events.Variant.{Variant}
 use Rattle.mesh_base.specs.declared.events.Variant.TheVariants.{Base, Error, Number, Reply}
@@ -39,7 +39,7 @@ error_has_none t variant rt dests =
 
 retract_still : (t : Test) (size : ℕ) (core : Core) (dests : Dests) → IsStill t size core (retract core dests)
 unfolding retract
-retract_still t size core dests = record { store = store-set t size core.ip core.store dests; cast = error_has_none t core.variant core.rt dests }
+retract_still t size core dests = record { store = store-set t size core.ip core.store (dests_of dests); cast = error_has_none t core.variant core.rt dests }
 
 link_broken_still : (t : Test) (size : ℕ) (core : Core) (y : ℕ) → IsStill t size core (broken_by y (link_broken core y))
 unfolding link_broken

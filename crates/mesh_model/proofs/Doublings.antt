@@ -2,7 +2,7 @@
 use Rattle.std.proofs.Common.{◌≡◌, ◌≤◌, ℕ, ◌+◌, Some, None, Option, refl, ap, ◌∙◌, arith}
 use Rattle.mesh_base.specs.Members.{NodeIds}
 use Rattle.mesh_model.proofs.Cases.{NamesNoCopy, by_cases, Refuses}
-use Rattle.mesh_base.specs.declared.events.Counter.{Counter}
+use Rattle.mesh_base.specs.declared.events.Full.{Full as Counter}
 use Rattle.aodv_model.specs.Cores.{Message, Pkt, Rreq, Rrep, Rerr}
 use Rattle.mesh_model.specs.Worlds.{World, Node, Copy, Event, Double, Next, CopyDoubled, range, find_copy, is_parcel, with_double, step}
 use Rattle.mesh_model.specs.Accounts.{any, in_message, in_found, doubled_data, doubled_at}

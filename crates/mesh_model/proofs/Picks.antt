@@ -5,7 +5,7 @@ use Rattle.std.proofs.lemmas.Bool.{cases_eq, eqb-false}
 use Rattle.std.proofs.lemmas.Option.{none-some, same_Some}
 use Rattle.std.specs.FinSet as sets
 use Rattle.mesh_base.specs.Members.{NodeIds, IsLeastFrom}
-use Rattle.mesh_base.specs.declared.events.Counter.{Counter}
+use Rattle.mesh_base.specs.declared.events.Full.{Full as Counter}
 use Rattle.aodv_model.specs.Cores.{Item}
 use Rattle.aodv_model.specs.Handlers.{send, ask}
 use Rattle.aodv_model.specs.Fullness.{turn_full, send_full, ask_full}

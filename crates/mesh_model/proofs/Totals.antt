@@ -6,8 +6,9 @@ use Rattle.std.proofs.lemmas.Bool.{eqb-true, eqb-false}
 use Rattle.std.proofs.lemmas.Option.{none-some, same_Some}
 use Rattle.aodv_model.specs.Cores.{set as set_flags}
 use Rattle.std.specs.FinMap as maps
+use Rattle.std.specs.FinSet as sets
 use Rattle.aodv_model.specs.Cores.{Body, Store, Waiting, add, bodies_in, drop, drop_first, needs_in, rest, unset, with_body}
-use Rattle.aodv_model.specs.Tables.{Dests}
+use Rattle.mesh_base.specs.Members.{NodeIds}
 use Rattle.aodv_model.proofs.Stores.{get-set, get-unset}
 use Rattle.mesh_model.specs.Accounts.{Test, counts, in_store, total, total_below}
 
@@ -126,5 +127,5 @@ bodies_same t size x store new flags each =
 pub store-unset : (t : Test) (size x : ℕ) (store : Store) (d : ℕ) → in_store t size x (unset store d) ≡ in_store t size x store
 store-unset t size x store d = bodies_same t size x store (unset store d) (λ q w. w.needs_request && not (q == d)) (get-unset store d)
 
-pub store-set : (t : Test) (size x : ℕ) (store : Store) (dests : Dests) → in_store t size x (set_flags store dests) ≡ in_store t size x store
-store-set t size x store dests = bodies_same t size x store (set_flags store dests) (λ q w. w.needs_request || maps.contains_key dests q) (get-set store dests)
+pub store-set : (t : Test) (size x : ℕ) (store : Store) (dests : NodeIds) → in_store t size x (set_flags store dests) ≡ in_store t size x store
+store-set t size x store dests = bodies_same t size x store (set_flags store dests) (λ q w. w.needs_request || sets.contains dests q) (get-set store dests)

@@ -2,8 +2,8 @@
 use Rattle.std.specs.Prelude.{◌≡◌, ◌≢◌, ℕ, ◌+◌, ◌≤◌, ◌<◌, true, List, ◌∷◌, length, Some}
 use Rattle.std.specs.List.{AllByRecursion}
 use Rattle.std.specs.FinMap as maps
-use Rattle.mesh_base.specs.declared.events.Counter.{Counter}
-use Rattle.mesh_base.specs.declared.events.Counter.TheVariants as full
+use Rattle.mesh_base.specs.declared.events.Full.{Full as Counter}
+use Rattle.mesh_base.specs.declared.events.Full.TheVariants as full
 use Rattle.mesh_base.specs.declared.events.Variant.{Variant}
 use Rattle.aodv_model.specs.declared.entry.Entry.{Entry}
 use Rattle.aodv_model.specs.declared.entry.Flag.TheVariants.{Val}

@@ -8,7 +8,7 @@ use Rattle.mesh_base.specs.declared.limits.TheConstants.{MOST_NODES}
 use Rattle.mesh_base.specs.Members.{NodeIds}
 unfoldable pub use Rattle.mesh_base.specs.Members.{members_below}
 use Rattle.mesh_base.specs.Meshes as meshes
-use Rattle.mesh_base.specs.declared.events.Counter.{Counter}
+use Rattle.mesh_base.specs.declared.events.Full.{Full as Counter}
 use Rattle.mesh_base.specs.declared.events.Variant.{Variant}
 use Rattle.aodv_model.specs.Pairs.{Pairs}
 use Rattle.mesh_model.specs.Numbered.{find_by, without_by, numbered_from}

@@ -5,13 +5,9 @@
 //! the answer.
 #![tactic(auto)]
 
-mod top;
-mod words;
-
 use mesh_io::{Source, StdSink, StdSource};
-use mesh_link::UdpLink;
-use mesh_router::NodeStatus;
 use mesh_shell::{WordsError, texts_of, words_of};
+use mesh_udp::{NodeStatus, UdpLink, node_run, port_of};
 use std::io;
 use std::io::Write;
 use std::process::ExitCode;
@@ -25,12 +21,16 @@ fn without_words(e: WordsError) -> NodeStatus {
     }
 }
 
-// Runs the router over standard input and output and a socket. If one of the two streams is closed,
-// that is reported before a socket is opened: the socket would take the stream's place, and whoever
-// sends datagrams would write the script.
+// Runs the router over standard input and output and a socket. Words that name no port are reported
+// first, whatever the streams are. If one of the two streams is closed, that is reported before a
+// socket is opened: the socket would take the stream's place, and whoever sends datagrams would
+// write the script.
 fn status_of(rt: &HostRuntime) -> Result<NodeStatus, NodeStatus> {
     let words = words_of(rt).map_err(without_words)?;
     let texts = texts_of(rt.alloc(), &words).map_err(without_words)?;
+    if port_of(&texts).is_none() {
+        return Err(NodeStatus::Usage);
+    }
     let mut input = StdSource::new(rt.stdin());
     if input.take(&mut []).is_err() {
         return Err(NodeStatus::ReadFault);
@@ -41,7 +41,7 @@ fn status_of(rt: &HostRuntime) -> Result<NodeStatus, NodeStatus> {
     }
     let mut out = StdSink::new(writer);
     let mut link = UdpLink::new(rt);
-    Ok(top::node_run(rt.alloc(), &texts, &mut input, &mut out, &mut link))
+    Ok(node_run(rt.alloc(), &texts, &mut input, &mut out, &mut link))
 }
 
 fn main(rt: HostRuntime) -> ExitCode {

@@ -15,11 +15,12 @@ ghost use Rattle.mesh_grid.specs.Runs.{events_of_placing};
 ghost use Rattle.mesh_places.specs.RunStates.{IsChange, IsWant, below, change_lines, run_state_of};
 
 use crate::placed::Placed;
-use mesh_base::{Event, NoMemory, NodeSet, push_text};
+use mesh_base::{Event, NoMemory, NodeSet, short};
 use mesh_grid::Placing;
 use mesh_io::{PutFault, Sink, put_all};
+use mesh_report::put_line;
 use mesh_run::{Point, Stop};
-use mesh_script::{Line, push_line};
+use mesh_script::Line;
 use mesh_world::{StepError, World};
 use std::alloc::Global;
 
@@ -39,19 +40,14 @@ fn range_of(at: &Point<World>, node: usize) -> NodeSet
 }
 
 // Writes a change, on a line below that of the node.
-fn put_change<O: Sink>(at: &mut Point<World>, event: Event<'_>, out: &mut O) -> Result<(), PutFault>
-    requires { IsChange (length at.old.mesh) (event_of event) }
+fn put_change<O: Sink>(at: &Point<World>, event: Event<'_>, out: &mut O) -> Result<(), PutFault>
+    requires { IsChange (length at.now.mesh) (event_of event) }
     ensures text { Puts (O.held out.old) (O.held out.new)
-        (change_line at.old.mesh (event_of event.entry)) result }
-    ensures same { at.new ≡ at.old }
+        (change_line at.now.mesh (event_of event.entry)) result }
     ensures cause { HasCause (O.faults out.old) (O.faults out.new) result }
 {
-    let line = &mut at.line;
-    line.clear();
-    push_text(line, b"  ");
-    push_line(line, at.state.mesh(), &Line::Step(event));
-    line.push(b'\n');
-    put_all(out, line.as_slice())
+    out.put_short(&short(b"  "))?;
+    put_line(at.state.mesh(), &Line::Step(event), out)
 }
 
 // Does one change, in the opening world if there is none yet. Making or cutting a link fills no
@@ -96,7 +92,7 @@ fn do_change<O: Sink>(
         return Ok(());
     };
     step_change(at.alloc, &mut at.point, &event)?;
-    put_change(&mut at.point, event, out)?;
+    put_change(&at.point, event, out)?;
     Ok(())
 }
 

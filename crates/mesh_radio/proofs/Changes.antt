@@ -7,16 +7,17 @@ use Rattle.mesh_base.specs.Members.{member_list}
 use Rattle.mesh_base.proofs.Ranks.{member_list-one}
 use Rattle.mesh_radio.specs.Copies.{without, copies_to}
 use Rattle.mesh_radio.specs.Kept.{Flights}
-use Rattle.mesh_radio.specs.Casts.{Entry, AreCasts, AreLeft, AreRising, HasNone, IsTidied, size, copies_of, without_to}
+use Rattle.mesh_radio.specs.Casts.{Entry, AreCasts, AreLeft, AreRising, IsAlone, HasNone, IsTidied, size, copies_of, without_to}
 use Rattle.mesh_radio.specs.declared.casts.Cast.{Cast}
-use Rattle.mesh_radio.proofs.Entries.{rising-push, lefts-push, rising-taken, lefts-taken, cast-copies, find-all}
+use Rattle.mesh_radio.proofs.Entries.{rising-push, rising-taken, left-taken, all-at, all-push, all-set, cast-copies, find-all}
 use Rattle.mesh_radio.proofs.Finds.{without_none}
 
-pub casts-push : (es now : List Entry) (next : ℕ) (c : Cast) → AreCasts es next → now ≡ es ++ (next, c) ∷ [] → 0 < size c → AreLeft c → next + size c < 2 ^ 64 → AreCasts now (next + size c)
-casts-push es now next c are is some left few = subst (λ xs. AreCasts xs (next + size c)) (sym is) (record {
+pub casts-push : (es now : List Entry) (next : ℕ) (c : Cast) → AreCasts es next → now ≡ es ++ (next, c) ∷ [] → 0 < size c → AreLeft c → IsAlone c → next + size c < 2 ^ 64 → AreCasts now (next + size c)
+casts-push es now next c are is some left alone few = subst (λ xs. AreCasts xs (next + size c)) (sym is) (record {
   rising = rising-push 1 next es c are.rising some;
   few = few;
-  lefts = lefts-push es (next, c) are.lefts left;
+  lefts = all-push AreLeft es (next, c) are.lefts left;
+  alone = all-push IsAlone es (next, c) are.alone alone;
 })
 
 -- ---- a cast to one node
@@ -36,7 +37,8 @@ pub casts-taken : (es now : List Entry) (next index to : ℕ) (e : Entry) → Ar
 casts-taken es now next index to e are at is = subst (λ xs. AreCasts xs next) (sym is) (record {
   rising = rising-taken 1 next index to es e are.rising at;
   few = are.few;
-  lefts = lefts-taken index to es e are.lefts at;
+  lefts = all-set AreLeft index es (without_to e.1 to) are.lefts (left-taken e.1 to (all-at AreLeft index es e are.lefts at));
+  alone = all-set IsAlone index es (without_to e.1 to) are.alone (all-at IsAlone index es e are.alone at);
 })
 
 pub casts-tidied : (es now : List Entry) (next : ℕ) → IsTidied es now → AreCasts es next → AreCasts now next
@@ -44,6 +46,7 @@ casts-tidied es now next t are = record {
   rising = t.rising 1 next are.rising;
   few = are.few;
   lefts = t.lefts are.lefts;
+  alone = t.alone are.alone;
 }
 
 -- where no copy in flight has the id, none is less without it

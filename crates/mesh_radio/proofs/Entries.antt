@@ -263,6 +263,12 @@ set-same [] index c at = absurd cc
 set-same (x ∷ es) zero c at = ap (λ v. (x.0, v) ∷ es) (sym (same_Some x.1 c at))
 set-same (x ∷ es) (suc index) c at = ap (λ xs. x ∷ xs) (set-same es index c at)
 
+pub set-here : (es : List Entry) (index : ℕ) (e : Entry) (w : Cast) → slice_get es index ≡ Some e → slice_get (set_value_at es index w) index ≡ Some (e.0, w)
+set-here [] zero e w at = absurd cc
+set-here [] (suc index) e w at = absurd cc
+set-here (x ∷ es) zero e w at = ap (λ (y : Entry). Some (y.0, w)) (same_Some x e at)
+set-here (x ∷ es) (suc index) e w at = set-here es index e w at
+
 pub none-or : {A : Type 0} (r : Option A) (P : Type 0) → P → IfNone r P
 none-or None P p = p
 none-or (Some x) P p = tt
@@ -310,9 +316,20 @@ pub rising-push : (low next : ℕ) (es : List Entry) (c : Cast) → AreRising lo
 rising-push low next [] c r some = (r, some, omega arith)
 rising-push low next (e ∷ es) c r some = (r.0, r.1, rising-push (e.0 + size e.1) next es c r.2 some)
 
-pub lefts-push : (es : List Entry) (e : Entry) → AllByRecursion (λ x. AreLeft x.1) es → AreLeft e.1 → AllByRecursion (λ x. AreLeft x.1) (es ++ e ∷ [])
-lefts-push [] e all is = (is, tt)
-lefts-push (x ∷ es) e all is = (all.0, lefts-push es e all.1 is)
+pub all-push : (P : Cast → Type 0) (es : List Entry) (e : Entry) → AllByRecursion (λ x. P x.1) es → P e.1 → AllByRecursion (λ x. P x.1) (es ++ e ∷ [])
+all-push P [] e all is = (is, tt)
+all-push P (x ∷ es) e all is = (all.0, all-push P es e all.1 is)
+
+pub all-at : (P : Cast → Type 0) (index : ℕ) (es : List Entry) (e : Entry) → AllByRecursion (λ x. P x.1) es → slice_get es index ≡ Some e → P e.1
+all-at P zero [] e all at = absurd cc
+all-at P (suc index) [] e all at = absurd cc
+all-at P zero (x ∷ es) e all at = subst (λ (y : Entry). P y.1) (same_Some x e at) all.0
+all-at P (suc index) (x ∷ es) e all at = all-at P index es e all.1 at
+
+pub all-set : (P : Cast → Type 0) (index : ℕ) (es : List Entry) (w : Cast) → AllByRecursion (λ x. P x.1) es → P w → AllByRecursion (λ x. P x.1) (set_value_at es index w)
+all-set P index [] w all is = tt
+all-set P zero (x ∷ es) w all is = (is, all.1)
+all-set P (suc index) (x ∷ es) w all is = (all.0, all-set P index es w all.1 is)
 
 copies-push : (es : List Entry) (e : Entry) → copies_of (es ++ e ∷ []) ≡ copies_of es ++ copies_in (slots_at e)
 copies-push [] e = append-nil (copies_in (slots_at e))
@@ -440,17 +457,11 @@ rising-taken low next zero to (x ∷ es) e r at =
     (r.0, subst (λ n. 0 < n) (sym long) r.1, subst (λ n. AreRising (x.0 + n) es next) (sym long) r.2)
 rising-taken low next (suc index) to (x ∷ es) e r at = (r.0, r.1, rising-taken (x.0 + size x.1) next index to es e r.2 at)
 
-pub lefts-taken : (index to : ℕ) (es : List Entry) (e : Entry) → AllByRecursion (λ x. AreLeft x.1) es → slice_get es index ≡ Some e → AllByRecursion (λ x. AreLeft x.1) (set_value_at es index (without_to e.1 to))
-lefts-taken zero to [] e all at = absurd cc
-lefts-taken (suc index) to [] e all at = absurd cc
-lefts-taken zero to (x ∷ es) e all at = (fewer e.1 to (subst (λ (y : Entry). AreLeft y.1) (same_Some x e at) all.0), all.1)
-  where
-    fewer : (c : Cast) (to : ℕ) → AreLeft c → AreLeft (without_to c to)
-    fewer c to are q is = elim (cases_eq q to) [
-      | inl e ↦ absurd (let none : contains (remove c.left to) q ≡ false = ap (contains (remove c.left to)) e ∙ remove_here nat_cmp_total nat_cmp-IsAntisymmetric c.left to in cc)
-      | inr ne ↦ are q (sym (remove_other nat_cmp_total nat_cmp-IsAntisymmetric c.left to q ne) ∙ is)
-    ]
-lefts-taken (suc index) to (x ∷ es) e all at = (all.0, lefts-taken index to es e all.1 at)
+pub left-taken : (c : Cast) (to : ℕ) → AreLeft c → AreLeft (without_to c to)
+left-taken c to are q is = elim (cases_eq q to) [
+  | inl e ↦ absurd (let none : contains (remove c.left to) q ≡ false = ap (contains (remove c.left to)) e ∙ remove_here nat_cmp_total nat_cmp-IsAntisymmetric c.left to in cc)
+  | inr ne ↦ are q (sym (remove_other nat_cmp_total nat_cmp-IsAntisymmetric c.left to q ne) ∙ is)
+]
 
 pub found-taken : (low next id index to : ℕ) (es : List Entry) (e : Entry) → AreRising low es next → IsFound es id index to → slice_get es index ≡ Some e
     → IsLess (copies_of es) (copies_of (set_value_at es index (without_to e.1 to))) id (e.1).bytes

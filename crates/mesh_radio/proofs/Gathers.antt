@@ -1,7 +1,6 @@
 -- A copy that joins the last cast.
 use Rattle.std.proofs.Common.{◌≡◌, ◌≢◌, ℕ, zero, suc, ◌+◌, ◌^◌, ◌<◌, ◌≤◌, inl, inr, true, cond, List, [], ◌∷◌, ◌++◌, length, Option, Some, None, refl, sym, ap, subst, ◌∙◌, append_assoc, append-nil, arith}
-use Rattle.std.specs.Prelude.{slice_get, is_some}
-use Rattle.std.specs.List.{AllByRecursion}
+use Rattle.std.specs.Prelude.{slice_get, is_some, unwrap_or, IfSome}
 use Rattle.std.specs.FinSet.{contains, insert}
 use Rattle.std.specs.FinMap.{nat_cmp-IsAntisymmetric}
 use Rattle.std.proofs.lemmas.Cmp.{nat_cmp_total}
@@ -14,13 +13,13 @@ use Rattle.mesh_base.specs.declared.events.Flying.{Flying}
 use Rattle.mesh_base.proofs.Ranks.{Rises, members-none, members-next, members-sorted}
 use Rattle.mesh_radio.specs.Copies.{find_copy}
 use Rattle.mesh_radio.specs.Kept.{copies_in}
-use Rattle.mesh_radio.specs.Casts.{Entry, AreCasts, AreLeft, AreRising, HasNone, IsLeast, IsLeastOf, copies_before, copies_of, size, slot, slots_at, slots_of}
+use Rattle.mesh_radio.specs.Casts.{Entry, AreCasts, AreLeft, AreRising, HasNone, IsAlone, IsLeast, IsLeastOf, copies_before, copies_of, size, slot, slots_at, slots_of}
 use Rattle.mesh_radio.specs.Gathered.{IsNextOf, with_receiver}
 use Rattle.mesh_radio.specs.declared.casts.Cast.{Cast}
 use Rattle.mesh_radio.specs.declared.casts.Least.{Least}
 use Rattle.mesh_radio.proofs.Orders.{insert_here, insert_other}
 use Rattle.mesh_radio.proofs.Joins.{rising-last, slots-append}
-use Rattle.mesh_radio.proofs.Entries.{copies_append, find-all, find-append, first_of, rises-to, slot-there}
+use Rattle.mesh_radio.proofs.Entries.{copies_append, all-set, find-all, find-append, first_of, rises-to, slot-there, set-here}
 use Rattle.mesh_radio.proofs.Nexts.{lefts-at, next-within}
 
 -- ---- a set with a member after its others
@@ -48,6 +47,11 @@ list-more s m lt after =
     ∙ ap (λ (ms : List ℕ). ms ++ m ∷ []) (below-same s m m (omega arith) ∙ sym (list-before s m lt after))
 
 -- ---- the cast
+
+-- a packet that is shared is the same
+pub same-packet : (shared : Option (List ℕ)) (last bytes : List ℕ) → IfSome shared (λ s. s ≡ last) → last ≡ bytes → unwrap_or shared bytes ≡ bytes
+same-packet None last bytes is same = refl
+same-packet (Some s) last bytes is same = is ∙ same
 
 slots-before : (c : Cast) (m k low : ℕ) (tos : List ℕ) → Rises low tos m → slots_of (with_receiver c m) k tos ≡ slots_of c k tos
 slots-before c m k low [] r = refl
@@ -110,17 +114,6 @@ rising-set low next zero (x ∷ []) e f r at ends lt n =
 rising-set low next zero (x ∷ (y ∷ es)) e f r at ends lt n = absurd (omega arith)
 rising-set low next (suc last) (x ∷ es) e f r at ends lt n = (r.0, r.1, rising-set (x.0 + size x.1) next last es e f r.2 at (omega arith) lt n)
 
-lefts-set : (last : ℕ) (es : List Entry) (w : Cast) → AllByRecursion (λ x. AreLeft x.1) es → AreLeft w → AllByRecursion (λ x. AreLeft x.1) (set_value_at es last w)
-lefts-set last [] w all are = tt
-lefts-set zero (x ∷ es) w all are = (are, all.1)
-lefts-set (suc last) (x ∷ es) w all are = (all.0, lefts-set last es w all.1 are)
-
-set-here : (es : List Entry) (last : ℕ) (e : Entry) (w : Cast) → slice_get es last ≡ Some e → slice_get (set_value_at es last w) last ≡ Some (e.0, w)
-set-here [] zero e w at = absurd cc
-set-here [] (suc last) e w at = absurd cc
-set-here (x ∷ es) zero e w at = ap (λ (y : Entry). Some (y.0, w)) (same_Some x e at)
-set-here (x ∷ es) (suc last) e w at = set-here es last e w at
-
 set-other : (es : List Entry) (last index : ℕ) (w : Cast) → index ≢ last → slice_get (set_value_at es last w) index ≡ slice_get es index
 set-other [] last index w ne = refl
 set-other (x ∷ es) zero zero w ne = absurd (ne refl)
@@ -144,7 +137,8 @@ module _ (es : List Entry) (next last : ℕ) (e : Entry) (f : Flying) (are : Are
   joined-casts few = record {
     rising = joined-rising;
     few = few;
-    lefts = lefts-set last es (with_receiver e.1 f.to) are.lefts (left-more e.1 f.to (lefts-at last es e are.lefts at));
+    lefts = all-set AreLeft last es (with_receiver e.1 f.to) are.lefts (left-more e.1 f.to (lefts-at last es e are.lefts at));
+    alone = all-set IsAlone last es (with_receiver e.1 f.to) are.alone (λ long. let short = n.short in let bytes = ap {B = ℕ} length n.bytes in absurd (omega arith));
   }
 
   -- no copy comes to have an id before that of the copy

@@ -15,7 +15,7 @@ use Rattle.mesh_base.specs.Members.{NodeIds, members_below, member_list, rank}
 use Rattle.mesh_base.proofs.Ranks.{member-rank}
 use Rattle.mesh_radio.specs.Copies.{AreBefore}
 use Rattle.mesh_radio.specs.Kept.{copies_in, AreSlots}
-use Rattle.mesh_radio.specs.Casts.{Entry, AreCasts, AreLeft, AreRising, IsCut, IsFront, copies_of, size, slot, slots_of, slots_at}
+use Rattle.mesh_radio.specs.Casts.{Entry, AreCasts, AreLeft, AreRising, IsAlone, IsCut, IsFront, copies_of, size, slot, slots_of, slots_at}
 use Rattle.mesh_radio.specs.declared.casts.Cast.{Cast}
 use Rattle.mesh_radio.proofs.Orders.{remove_here, remove_other}
 use Rattle.mesh_radio.proofs.Finds.{all-found}
@@ -164,13 +164,14 @@ pub record AreCut (low id : ℕ) (before now : List Entry) : Type 0 where
   pub same : copies_of now ≡ copies_of before
   pub rising : AreRising low now id
   pub lefts : AllByRecursion (λ e. AreLeft e.1) now
+  pub alone : AllByRecursion (λ e. IsAlone e.1) now
 
 cut-none : (low id : ℕ) → low ≤ id → AreCut low id [] []
-cut-none low id le = record { same = refl; rising = le; lefts = tt }
+cut-none low id le = record { same = refl; rising = le; lefts = tt; alone = tt }
 
-cut-kept : (low next id : ℕ) (e : Entry) (w : Cast) (es rest : List Entry) → AreRising low (e ∷ es) next → AreLeft e.1 → AreBefore id (copies_in (slots_at e)) → e.0 < id
+cut-kept : (low next id : ℕ) (e : Entry) (w : Cast) (es rest : List Entry) → AreRising low (e ∷ es) next → AreLeft e.1 → IsAlone e.1 → AreBefore id (copies_in (slots_at e)) → e.0 < id
     → w ≡ record e.1 { to = w.to } → IsFront (e.1).to (id - e.0) w.to → (e.0 + size w ≤ id → AreRising (e.0 + size w) es next → AreCut (e.0 + size w) id es rest) → AreCut low id (e ∷ es) ((e.0, w) ∷ rest)
-cut-kept low next id e w es rest r left before lt is front more =
+cut-kept low next id e w es rest r left one before lt is front more =
     let long = ap size is ∙ cut-size id e.0 e.1 w.to lt before front in
     let up = r.0 in
     let some = r.1 in
@@ -181,6 +182,7 @@ cut-kept low next id e w es rest r left before lt is front more =
           ∙ ap (λ fs. copies_in (slots_at e) ++ fs) cut.same;
       rising = (r.0, omega arith, cut.rising);
       lefts = (subst AreLeft (sym is) (cut-left id e.0 e.1 w.to lt before front left), cut.lefts);
+      alone = (λ many. let bytes = ap (λ (x : Cast). length x.bytes) is in let few = one (omega arith) in omega arith, cut.alone);
     }
 
 cut-gone : (low next id : ℕ) (e : Entry) (es rest : List Entry) → AreRising low (e ∷ es) next → AreBefore id (copies_in (slots_at e)) → id ≤ e.0
@@ -193,14 +195,15 @@ cut-gone low next id e es rest r before le more =
       same = cut.same ∙ ap (λ fs. fs ++ copies_of es) (sym none);
       rising = cut.rising;
       lefts = cut.lefts;
+      alone = cut.alone;
     }
 
 module _ {F : Type 0} (T : F → ℕ → Cast → Bool → Cast → F → Type 0) (id : ℕ) (f : F)
     (says : (k : ℕ) (c : Cast) (b : Bool) (w : Cast) (g : F) → T f k c b w g → IsCut id k c w b × (g ≡ f)) where
-  pub all-cut : (low next : ℕ) (es now : List Entry) → RetainsPairs T f es now → AreRising low es next → AllByRecursion (λ e. AreLeft e.1) es
+  pub all-cut : (low next : ℕ) (es now : List Entry) → RetainsPairs T f es now → AreRising low es next → AllByRecursion (λ e. AreLeft e.1) es → AllByRecursion (λ e. IsAlone e.1) es
       → AreBefore id (copies_of es) → low ≤ id → AreCut low id es now
-  all-cut low next [] now h r all before le = subst (AreCut low id []) (sym h) (cut-none low id le)
-  all-cut low next (e ∷ es) now h r all before le =
+  all-cut low next [] now h r all ones before le = subst (AreCut low id []) (sym h) (cut-none low id le)
+  all-cut low next (e ∷ es) now h r all ones before le =
       let said = says e.0 e.1 h.0 h.1 h.2 h.4 in
       let rest = subst (λ g. RetainsPairs T g es h.3) said.1 h.5 in
       let cut = said.0 in
@@ -210,11 +213,11 @@ module _ {F : Type 0} (T : F → ℕ → Cast → Bool → Cast → F → Type 0
             let stays = cut.stays_below ∙ lt-ltb e.0 id lt in
             let how = subst (λ b. OnTrue b ((h.1 ≡ record e.1 { to = (h.1).to }) × IsFront (e.1).to (id - e.0) (h.1).to)) stays cut.cut in
             subst (λ b. AreCut low id (e ∷ es) (cond b ((e.0, h.1) ∷ h.3) h.3)) (sym stays)
-            (cut-kept low next id e h.1 es h.3 r all.0 parts.0 lt how.0 how.1
-            (λ few up. all-cut (e.0 + size h.1) next es h.3 rest up all.1 parts.1 few))
+            (cut-kept low next id e h.1 es h.3 r all.0 ones.0 parts.0 lt how.0 how.1
+            (λ few up. all-cut (e.0 + size h.1) next es h.3 rest up all.1 ones.1 parts.1 few))
         | inr ge ↦
             subst (λ b. AreCut low id (e ∷ es) (cond b ((e.0, h.1) ∷ h.3) h.3)) (sym (cut.stays_below ∙ le-ltb e.0 id ge))
-            (cut-gone low next id e es h.3 r parts.0 ge (λ up. all-cut low next es h.3 rest up all.1 parts.1 le))
+            (cut-gone low next id e es h.3 r parts.0 ge (λ up. all-cut low next es h.3 rest up all.1 ones.1 parts.1 le))
       ])
 
 -- ---- an id after those of all casts
@@ -232,4 +235,4 @@ rising-later low next later [] r le = omega arith
 rising-later low next later (e ∷ es) r le = (r.0, r.1, rising-later (e.0 + size e.1) next later es r.2 le)
 
 pub casts-later : (es : List Entry) (next later : ℕ) → AreCasts es next → next ≤ later → later < 2 ^ 64 → AreCasts es later
-casts-later es next later are le few = record { rising = rising-later 1 next later es are.rising le; few = few; lefts = are.lefts }
+casts-later es next later are le few = record { rising = rising-later 1 next later es are.rising le; few = few; lefts = are.lefts; alone = are.alone }

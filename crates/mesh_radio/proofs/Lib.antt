@@ -13,3 +13,4 @@ pub mod Links
 pub mod Joins
 pub mod Ranks
 pub mod Gathers
+pub mod Takes

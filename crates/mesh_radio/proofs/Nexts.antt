@@ -14,7 +14,7 @@ use Rattle.mesh_radio.proofs.Finds.{from_zero}
 use Rattle.mesh_radio.specs.Casts.{Entry, size, slot_for, copies_of, AreRising, AreLeft, IsSplit, IsNext, IsBefore, IsFrom, NoneUpTo, copies_before, entry_of, copy_of}
 use Rattle.mesh_radio.specs.declared.casts.Cast.{Cast}
 use Rattle.mesh_base.proofs.Ranks.{members-sorted, members-order, rises-order, member-rank}
-use Rattle.mesh_radio.proofs.Entries.{rising-low, rising-first, slot-there, slot-gone, find-all, copies-numbered, key-at}
+use Rattle.mesh_radio.proofs.Entries.{rising-low, rising-first, slot-there, slot-gone, find-all, copies-numbered, key-at, all-at}
 
 -- ---- the cast of an id
 
@@ -56,10 +56,7 @@ ids-below low next zero (x ∷ es) e r at = subst (λ (y : Entry). y.0 + size y.
 ids-below low next (suc index) (x ∷ es) e r at = ids-below (x.0 + size x.1) next index es e r.2 at
 
 pub lefts-at : (index : ℕ) (es : List Entry) (e : Entry) → AllByRecursion (λ x. AreLeft x.1) es → slice_get es index ≡ Some e → AreLeft e.1
-lefts-at zero [] e all at = absurd cc
-lefts-at (suc index) [] e all at = absurd cc
-lefts-at zero (x ∷ es) e all at = subst (λ (y : Entry). AreLeft y.1) (same_Some x e at) all.0
-lefts-at (suc index) (x ∷ es) e all at = lefts-at index es e all.1 at
+lefts-at index es e all at = all-at AreLeft index es e all at
 
 -- ---- no copy
 

@@ -10,10 +10,10 @@ use Rattle.mesh_base.specs.declared.events.Flying.{Flying}
 use Rattle.mesh_radio.specs.Copies.{find_copy, without}
 use Rattle.mesh_radio.specs.Kept.{copies_in}
 use Rattle.indexmap.specs.IndexMap.{set_value_at}
-use Rattle.mesh_radio.specs.Casts.{Entry, size, slots_of, slots_at, copies_of, AreRising, AreLeft, AreGone, IsTidied, IsBefore, has_left, entry_of, copy_of, without_to, without_packet}
+use Rattle.mesh_radio.specs.Casts.{Entry, size, slots_of, slots_at, copies_of, AreRising, AreLeft, AreGone, IsAlone, IsTidied, IsBefore, has_left, entry_of, copy_of, without_to, without_packet}
 use Rattle.mesh_radio.specs.declared.casts.Cast.{Cast}
 use Rattle.mesh_base.proofs.Ranks.{members-zero, member-past, members-sorted, rises-bound, no-first}
-use Rattle.mesh_radio.proofs.Entries.{IsLess, rising-low, slot-gone, find-all, rising-taken}
+use Rattle.mesh_radio.proofs.Entries.{IsLess, rising-low, slot-gone, find-all, rising-taken, all-at, all-set}
 use Rattle.mesh_radio.proofs.Nexts.{none-more, none-at-start}
 use Rattle.mesh_radio.proofs.Receivers.{member_of_rank}
 
@@ -56,23 +56,24 @@ rising-kept low next (e ∷ es) r =
       | false ↦ rising-weak low (e.0 + size e.1) next (filter (λ x. has_left x.1) es) (omega arith) rest
     ]
 
-lefts-kept : (es : List Entry) → AllByRecursion (λ e. AreLeft e.1) es → AllByRecursion (λ e. AreLeft e.1) (filter (λ e. has_left e.1) es)
-lefts-kept [] all = all
-lefts-kept (e ∷ es) all =
-    elim (has_left e.1) as (λ b. AllByRecursion (λ e. AreLeft e.1) (cond b (e ∷ filter (λ x. has_left x.1) es) (filter (λ x. has_left x.1) es))) [
-      | true ↦ (all.0, lefts-kept es all.1)
-      | false ↦ lefts-kept es all.1
+all-kept : (P : Cast → Type 0) (es : List Entry) → AllByRecursion (λ e. P e.1) es → AllByRecursion (λ e. P e.1) (filter (λ e. has_left e.1) es)
+all-kept P [] all = all
+all-kept P (e ∷ es) all =
+    elim (has_left e.1) as (λ b. AllByRecursion (λ e. P e.1) (cond b (e ∷ filter (λ x. has_left x.1) es) (filter (λ x. has_left x.1) es))) [
+      | true ↦ (all.0, all-kept P es all.1)
+      | false ↦ all-kept P es all.1
     ]
 
 pub swept : (before now : List Entry) → now ≡ filter (λ e. has_left e.1) before → IsTidied before now
 swept before now is = record {
   same = ap copies_of is ∙ copies-kept before;
   rising = λ low next r. subst (λ es. AreRising low es next) (sym is) (rising-kept low next before r);
-  lefts = λ all. subst (AllByRecursion (λ e. AreLeft e.1)) (sym is) (lefts-kept before all);
+  lefts = λ all. subst (AllByRecursion (λ e. AreLeft e.1)) (sym is) (all-kept AreLeft before all);
+  alone = λ all. subst (AllByRecursion (λ e. IsAlone e.1)) (sym is) (all-kept IsAlone before all);
 }
 
 pub untouched : (es : List Entry) → IsTidied es es
-untouched es = record { same = refl; rising = λ low next r. r; lefts = λ all. all }
+untouched es = record { same = refl; rising = λ low next r. r; lefts = λ all. all; alone = λ all. all }
 
 pub gone-none : (es : List Entry) → AreGone es 0
 gone-none es = record { within = omega arith; none = none-at-start es 0 0 refl }
@@ -103,18 +104,13 @@ packet-rising low next zero (x ∷ es) e at r =
     (r.0, subst (λ n. 0 < n) (sym long) r.1, subst (λ n. AreRising (x.0 + n) es next) (sym long) r.2)
 packet-rising low next (suc index) (x ∷ es) e at r = (r.0, r.1, packet-rising (x.0 + size x.1) next index es e at r.2)
 
-packet-lefts : (index : ℕ) (es : List Entry) (e : Entry) → slice_get es index ≡ Some e → AllByRecursion (λ x. AreLeft x.1) es → AllByRecursion (λ x. AreLeft x.1) (set_value_at es index (without_packet e.1))
-packet-lefts zero [] e at all = absurd cc
-packet-lefts (suc index) [] e at all = absurd cc
-packet-lefts zero (x ∷ es) e at all = (subst (λ (y : Entry). AreLeft y.1) (same_Some x e at) all.0, all.1)
-packet-lefts (suc index) (x ∷ es) e at all = (all.0, packet-lefts index es e at all.1)
-
 -- where no copy of the cast flies
 pub packet-tidied : (index : ℕ) (es : List Entry) (e : Entry) → slice_get es index ≡ Some e → has_left e.1 ≡ false → IsTidied es (set_value_at es index (without_packet e.1))
 packet-tidied index es e at none = record {
   same = packet-same 0 0 index es e at none;
   rising = λ low next r. packet-rising low next index es e at r;
-  lefts = λ all. packet-lefts index es e at all;
+  lefts = λ all. all-set AreLeft index es (without_packet e.1) all (all-at AreLeft index es e all at);
+  alone = λ all. all-set IsAlone index es (without_packet e.1) all (λ long. absurd (omega arith));
 }
 
 pub tidied-then : (es now later : List Entry) → IsTidied es now → IsTidied now later → IsTidied es later
@@ -122,6 +118,7 @@ tidied-then es now later a b = record {
   same = b.same ∙ a.same;
   rising = λ low next r. b.rising low next (a.rising low next r);
   lefts = λ all. b.lefts (a.lefts all);
+  alone = λ all. b.alone (a.alone all);
 }
 
 -- ---- after a cast

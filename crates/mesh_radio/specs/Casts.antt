@@ -54,11 +54,16 @@ AreRising low (e ∷ es) next = (low ≤ e.0) × (0 < size e.1) × AreRising (e.
 abbrev pub AreLeft : Cast → Type 0
 AreLeft c = (q : ℕ) → contains c.left q ≡ true → contains c.to q ≡ true
 
+-- a cast of a packet of more than 32 bytes makes one copy, which can be taken out with the packet
+abbrev pub IsAlone : Cast → Type 0
+IsAlone c = 32 < length c.bytes → size c ≤ 1
+
 -- casts, and the id of the next copy
 pub record AreCasts (es : List Entry) (next : ℕ) : Type 0 where
   pub rising : AreRising 1 es next
   pub few : next < 2 ^ 64
   pub lefts : AllByRecursion (λ e. AreLeft e.1) es
+  pub alone : AllByRecursion (λ e. IsAlone e.1) es
 
 -- casts with `count` copies in flight in all, `of_data` of them of data
 pub record AreKept (es : List Entry) (next count of_data : ℕ) : Type 0 where
@@ -173,6 +178,7 @@ pub record IsTidied (before now : List Entry) : Type 0 where
   pub same : copies_of now ≡ copies_of before
   pub rising : (low next : ℕ) → AreRising low before next → AreRising low now next
   pub lefts : AllByRecursion (λ e. AreLeft e.1) before → AllByRecursion (λ e. AreLeft e.1) now
+  pub alone : AllByRecursion (λ e. IsAlone e.1) before → AllByRecursion (λ e. IsAlone e.1) now
 
 -- ---- ids that are free again
 

@@ -9,7 +9,5 @@ pub mod Kept
 pub mod Casts
 -- Gathered: how a copy joins the last cast.
 pub mod Gathered
--- Shared: where the bytes of a packet are.
-pub mod Shared
 -- Hashes: how the number of a cast is hashed.
 pub mod Hashes

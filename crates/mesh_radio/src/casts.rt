@@ -4,14 +4,14 @@ ghost use Rattle.std.specs.Map.{keys_of};
 ghost use Rattle.indexmap.specs.IndexMap.{spare, values, with_value_at};
 ghost use Rattle.mesh_base.specs.Members.{member_list, rank};
 ghost use Rattle.mesh_radio.specs.declared.casts.Cast.{Cast};
-ghost use Rattle.mesh_radio.specs.Casts.{Entry, AreCasts, AreLeft, IsFound, IsNext, IsSplit, IsFrom, AreGone, IsLeast, IsLeastOf, NoneUpTo, HasNone, HasNoneFrom, copy_of, entry_of, size, without_to};
+ghost use Rattle.mesh_radio.specs.Casts.{Entry, AreCasts, AreLeft, IsAlone, IsFound, IsNext, IsSplit, IsFrom, AreGone, IsLeast, IsLeastOf, NoneUpTo, HasNone, HasNoneFrom, copy_of, entry_of, size, without_to};
 
 use crate::hashes::NumberHasher;
 use crate::positions::position_near;
 use crate::reserve::Reserve;
-use crate::shared::Shared;
 use indexmap::IndexMap;
-use mesh_base::NodeSet;
+use mesh_base::{Bytes, NodeSet};
+use std::alloc::Global;
 use std::hash::BuildHasherDefault;
 
 /// A packet that was cast: its sender, its receivers (`to`), and those of them whose copies are
@@ -21,8 +21,12 @@ pub struct Cast {
     pub to: NodeSet,
     pub left: NodeSet,
     pub from: usize,
-    pub bytes: Shared,
+    pub bytes: Bytes,
 }
+
+/// A packet of at most this many bytes is copied without taking memory. Of a longer one each cast
+/// makes one copy, so that the copy can be taken out with the packet itself.
+pub const LONGEST_INLINE: usize = 32;
 
 /// Casts by the ids of their first copies, which rise.
 pub type Casts = IndexMap<u64, Cast, BuildHasherDefault<NumberHasher>>;
@@ -242,6 +246,7 @@ pub fn launch(casts: &mut Casts, least: Option<Least>, next: u64, cast: Cast) ->
     requires room { 0 < spare casts.old }
     requires some { 0 < size cast }
     requires left { AreLeft cast }
+    requires alone { IsAlone cast }
     requires few { next + size cast < 2 ^ 64 }
     ensures entries { casts.new.entries ≡ casts.old.entries ++ (next, cast) ∷ [] }
     ensures casts { AreCasts casts.new.entries (next + size cast) }
@@ -285,7 +290,7 @@ pub fn remove_at(casts: &mut Casts, index: usize, to: usize)
 
 /// The packet of the cast at this index once more: shared with the cast or, if it can't be, in the
 /// memory of at most one room.
-pub fn double_packet(casts: &mut Casts, index: usize, reserve: &mut Reserve) -> Shared
+pub fn double_packet(casts: &mut Casts, index: usize, reserve: &mut Reserve) -> Bytes
     requires room { 1 ≤ reserve.old.room }
     requires fits { (c : Cast) → slice_get (values casts.old) index ≡ Some c
         → length c.bytes ≤ reserve.old.most }
@@ -296,6 +301,21 @@ pub fn double_packet(casts: &mut Casts, index: usize, reserve: &mut Reserve) -> 
 {
     match casts.get_index_mut(index) {
         Some(cast) => reserve.double(&mut cast.bytes),
-        None => Shared::empty(),
+        None => Bytes::empty(),
     }
+}
+
+/// This packet once more, if the last cast has the same: its memory is shared with that cast. None
+/// if it can't be shared, or if the last cast has another packet.
+pub fn share_last(casts: &mut Casts, alloc: Global, packet: &[u8]) -> Option<Bytes>
+    ensures entries { casts.new.entries ≡ casts.old.entries }
+    ensures spare { spare casts.new ≡ spare casts.old }
+    ensures packet { IfSome result (λ s. s ≡ packet.now) }
+{
+    let last = casts.len().saturating_sub(1);
+    let cast = casts.get_index_mut(last)?;
+    if cast.bytes.as_slice() != packet {
+        return None;
+    }
+    cast.bytes.share(alloc)
 }

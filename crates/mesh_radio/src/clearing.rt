@@ -1,11 +1,12 @@
 //! How casts without a copy in flight are removed.
-ghost use Rattle.std.specs.Prelude.{◌≡◌, ℕ, ◌≤◌, filter, slice_get, Some, false};
+ghost use Rattle.std.specs.Prelude.{◌≡◌, ℕ, ◌≤◌, ◌<◌, filter, length, slice_get, Some, false};
 ghost use Rattle.std.specs.Bool.{OnTrue};
-ghost use Rattle.indexmap.specs.IndexMap.{spare, with_value_at};
+ghost use Rattle.indexmap.specs.IndexMap.{set_value_at, spare, with_value_at};
 ghost use Rattle.mesh_radio.specs.Casts.{Entry, AreRising, AreGone, IsTidied, has_left, without_packet};
 
 use crate::casts::{Cast, Casts};
-use crate::shared::Shared;
+use mesh_base::Bytes;
+use std::mem::replace;
 
 /// Fewer casts without a copy in flight than this are left where they are: to sweep them would cost
 /// more than the 32 KB of memory that they take up.
@@ -30,7 +31,27 @@ fn drop_packet(casts: &mut Casts, index: usize)
         casts.new ≡ with_value_at casts.old index (without_packet e.1) }
 {
     if let Some(cast) = casts.get_index_mut(index) {
-        cast.bytes = Shared::empty();
+        cast.bytes = Bytes::empty();
+    }
+}
+
+/// The packet of the cast at this index. A short one is copied, a longer one is moved out.
+pub fn take_packet(casts: &mut Casts, index: usize) -> Bytes
+    ensures packet { (e : Entry) → slice_get casts.old.entries index ≡ Some e →
+        result ≡ (e.1).bytes }
+    ensures short { (e : Entry) → slice_get casts.old.entries index ≡ Some e →
+        length (e.1).bytes ≤ 32 → casts.new.entries ≡ casts.old.entries }
+    ensures long { (e : Entry) → slice_get casts.old.entries index ≡ Some e →
+        32 < length (e.1).bytes →
+        casts.new.entries ≡ set_value_at casts.old.entries index (without_packet e.1) }
+    ensures spare { spare casts.old ≤ spare casts.new }
+{
+    match casts.get_index_mut(index) {
+        Some(cast) => match cast.bytes.clone_inline() {
+            Some(short) => short,
+            None => replace(&mut cast.bytes, Bytes::empty()),
+        },
+        None => Bytes::empty(),
     }
 }
 

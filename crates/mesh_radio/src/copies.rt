@@ -7,13 +7,12 @@ ghost use Rattle.mesh_radio.specs.Copies.{held_seen, find_copy, IsCopyWithin, wi
 ghost use Rattle.mesh_radio.specs.Kept.{with_flights, with_flight, with_second, with_room};
 
 use crate::casts::{
-    Cast, Casts, Least, double_packet, find, find_again, find_next, front_of, launch, least_from,
-    remove_at,
+    Cast, Casts, LONGEST_INLINE, Least, double_packet, find, find_again, find_next, front_of,
+    launch, least_from, remove_at, share_last,
 };
-use crate::clearing::clear;
+use crate::clearing::{clear, take_packet};
 use crate::gathering::gather;
 use crate::reserve::Reserve;
-use crate::shared::Shared;
 use aodv_wire::is_data;
 use mesh_base::{Bytes, Flying, FlyingView, MOST_NODES, NoMemory, NodeSet};
 use std::alloc::Global;
@@ -32,9 +31,10 @@ pub struct Held<'a> {
 }
 
 /// The copies in flight, as casts: a cast is kept by the id of its first copy, and its copies have
-/// that id and the next ones, by rising receiver. A copy is found by the position of its cast, if
-/// need be by binary search, and by its rank among the receivers; clearing one bit removes it. The
-/// least copy is kept separately.
+/// that id and the next ones, by rising receiver. A long packet to several receivers is as many
+/// casts, which share its memory. A copy is found by the position of its cast, if need be by binary
+/// search, and by its rank among the receivers; clearing one bit removes it. The least copy is kept
+/// separately.
 #[derive(Drop)]
 pub struct Copies {
     casts: Casts,
@@ -133,7 +133,7 @@ impl Copies {
             from: cast.from,
             to: spot.to,
             index: spot.index,
-            bytes: cast.bytes.as_bytes(),
+            bytes: &cast.bytes,
         })
     }
 
@@ -170,14 +170,19 @@ impl Copies {
         if copies == 0 {
             return;
         }
+        if copies > 1 && bytes.len() > LONGEST_INLINE {
+            return self.launch_each(from, bytes, to);
+        }
         self.launch_all(from, bytes, to, copies)
     }
 
-    // This many copies of the packet, one or more, fly to the members of the set.
+    // This many copies of the packet, one or more, fly to the members of the set: no more than one
+    // if the packet is long.
     #[inline(never)]
     fn launch_all(&mut self, from: usize, bytes: &[u8], to: &NodeSet, copies: usize)
         requires some { 0 < copies }
         requires all { copies ≡ length (member_list to.now) }
+        requires alone { 32 < length bytes.now → copies ≤ 1 }
         requires room { copies ≤ self.old.room }
         requires fits { length bytes.now ≤ self.old.most }
         requires next { self.old.next_copy + copies < 2 ^ 64 }
@@ -187,12 +192,53 @@ impl Copies {
             to: *to,
             left: *to,
             from,
-            bytes: Shared::own(self.reserve.fill(bytes, copies)),
+            bytes: self.reserve.fill(bytes, copies),
         };
         self.least = launch(&mut self.casts, self.least, self.next, cast);
         self.next += copies as u64;
         self.count += copies;
         self.of_data += if_data(bytes, copies);
+    }
+
+    // A copy of a long packet flies to each member of the set. Each has a cast of its own, which is
+    // an owner of the packet, so that the copy can be taken out with it.
+    #[cold]
+    #[inline(never)]
+    fn launch_each(&mut self, from: usize, bytes: &[u8], to: &NodeSet)
+        requires room { length (member_list to.now) ≤ self.old.room }
+        requires fits { length bytes.now ≤ self.old.most }
+        requires next { self.old.next_copy + length (member_list to.now) < 2 ^ 64 }
+        ensures { self.new ≡ with_flights self.old from bytes.now (member_list to.now) }
+    {
+        let mut start = 0;
+        'receivers: while let Some(receiver) = to.next_from(start) {
+            self.launch_one(from, bytes, receiver);
+            start = receiver + 1;
+        }
+    }
+
+    // A copy of the packet flies to this node. It shares the packet's memory with the last cast, if
+    // that has the same packet.
+    fn launch_one(&mut self, from: usize, bytes: &[u8], receiver: usize)
+        requires below { receiver < 256 }
+        requires room { 1 ≤ self.old.room }
+        requires fits { length bytes.now ≤ self.old.most }
+        requires next { self.old.next_copy + 1 < 2 ^ 64 }
+        ensures { self.new ≡ with_flights self.old from bytes.now (receiver ∷ []) }
+    {
+        let shared = share_last(&mut self.casts, self.reserve.alloc(), bytes);
+        let mut to = NodeSet::new();
+        to.add(receiver);
+        let cast = Cast {
+            to,
+            left: to,
+            from,
+            bytes: self.reserve.fill_one(shared, bytes),
+        };
+        self.least = launch(&mut self.casts, self.least, self.next, cast);
+        self.next += 1;
+        self.count += 1;
+        self.of_data += if_data(bytes, 1);
     }
 
     /// A second copy like the one of this id flies, with the next id. The two share the packet's
@@ -271,8 +317,34 @@ impl Copies {
         self.least = least_from(&self.casts, gone);
     }
 
+    /// Takes the copy of this id out, with its packet, for which no memory is needed: of a long
+    /// packet, its cast made this one copy. None if no copy has this id.
+    pub fn take(&mut self, id: u64) -> Option<Flying>
+        ensures taken { result ≡ find_copy self.old.flying id }
+        ensures gone { let left = without self.old.flying id in
+            self.new ≡ record self.old { flying = left } }
+    {
+        let front = front_of(&self.least);
+        let found = find(&self.casts, &self.least, id)?;
+        let (_, cast) = self.casts.get_index(found.index)?;
+        let from = cast.from;
+        let data = if_data(cast.bytes.as_slice(), 1);
+        remove_at(&mut self.casts, found.index, found.to);
+        let bytes = take_packet(&mut self.casts, found.index);
+        self.count -= 1;
+        self.of_data -= data;
+        let gone = clear(&mut self.casts, found.index, front, &mut self.done);
+        self.least = least_from(&self.casts, gone);
+        Some(Flying {
+            id,
+            from,
+            to: found.to,
+            bytes,
+        })
+    }
+
     /// Adds a copy, with an id after those of the others and below the next. It shares the packet
-    /// of the copy before it if both can be of one cast.
+    /// of the copy before it if that is the same, and is of the same cast if both can be.
     pub fn put(&mut self, f: Flying) -> Result<(), NoMemory>
         requires id { (1 ≤ f.id) × (f.id < self.old.next_copy) }
         requires last { AreBefore f.id self.old.flying }
@@ -282,7 +354,7 @@ impl Copies {
         ensures refused { OnErr result (self.new ≡ self.old) }
     {
         let more = if_data(f.bytes.as_slice(), 1);
-        self.least = gather(&mut self.casts, self.least, f)?;
+        self.least = gather(&mut self.casts, self.reserve.alloc(), self.least, f)?;
         self.count += 1;
         self.of_data += more;
         Ok(())

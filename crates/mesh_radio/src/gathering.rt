@@ -8,17 +8,18 @@ ghost use Rattle.mesh_radio.specs.Copies.{AreBefore};
 ghost use Rattle.mesh_radio.specs.Casts.{Entry, AreCasts, IsLeastOf, copies_of};
 ghost use Rattle.mesh_radio.specs.Gathered.{IsNextOf, with_receiver};
 
-use crate::casts::{Cast, Casts, Least, launch};
+use crate::casts::{Cast, Casts, LONGEST_INLINE, Least, launch, share_last};
 use crate::joining::make_way;
-use crate::shared::Shared;
 use mesh_base::{Flying, NoMemory, NodeSet};
+use std::alloc::Global;
 
 // Whether the cast with this first id could have made the copy after its others.
 fn is_next_of(first: u64, cast: &Cast, f: &Flying) -> bool
     requires few { first + length (member_list (cast.now).to) < 2 ^ 64 }
     ensures { OnTrue result (IsNextOf (first, cast.now) f.now) }
 {
-    first + cast.to.count() as u64 == f.id
+    f.bytes.as_slice().len() <= LONGEST_INLINE
+        && first + cast.to.count() as u64 == f.id
         && cast.from == f.from
         && cast.to.next_from(f.to).is_none()
         && cast.bytes.as_slice() == f.bytes.as_slice()
@@ -51,9 +52,14 @@ fn extend_last(casts: &mut Casts, to: usize)
 
 /// Adds the copy to those in flight, whose ids are before its own. It joins the last cast if some
 /// copy flies and that cast could have made it after its others; else it has a cast of its own, for
-/// which memory is needed. The answer is the least copy after that; `least` is the least copy
-/// before.
-pub fn gather(casts: &mut Casts, least: Option<Least>, f: Flying) -> Result<Option<Least>, NoMemory>
+/// which memory is needed, and shares its packet with the last cast if that has the same. The
+/// answer is the least copy after that; `least` is the least copy before.
+pub fn gather(
+    casts: &mut Casts,
+    alloc: Global,
+    least: Option<Least>,
+    f: Flying,
+) -> Result<Option<Least>, NoMemory>
     requires casts { (next : ℕ) × AreCasts casts.old.entries next }
     requires least { IsLeastOf casts.old.entries least }
     requires id { (1 ≤ f.id) × (f.id + 1 < 2 ^ 64) }
@@ -70,6 +76,7 @@ pub fn gather(casts: &mut Casts, least: Option<Least>, f: Flying) -> Result<Opti
         return Ok(least);
     }
     casts.reserve(1)?;
+    let shared = share_last(casts, alloc, f.bytes.as_slice());
     let least = make_way(casts, least, f.id);
     let mut to = NodeSet::new();
     to.add(f.to);
@@ -77,7 +84,7 @@ pub fn gather(casts: &mut Casts, least: Option<Least>, f: Flying) -> Result<Opti
         to,
         left: to,
         from: f.from,
-        bytes: Shared::own(f.bytes),
+        bytes: shared.unwrap_or(f.bytes),
     };
     Ok(launch(casts, least, f.id, cast))
 }

@@ -13,7 +13,6 @@ mod joining;
 mod positions;
 mod radio;
 mod reserve;
-mod shared;
 mod size_class;
 
 pub use copies::Held;

@@ -5,14 +5,12 @@ ghost use Rattle.std.specs.List.{AllByRecursion};
 ghost use Rattle.std.specs.FinSet as sets;
 ghost use Rattle.mesh_base.specs.Views.{flying_seen};
 ghost use Rattle.mesh_model.specs.Worlds.{are_linked, linked_below};
-ghost use Rattle.mesh_radio.specs.Copies.{held_seen, find_copy, from_id, data_in, AreBefore, AreNumbered, IsBetween, IsCopyWithin, longest_packet};
+ghost use Rattle.mesh_radio.specs.Copies.{held_seen, find_copy, from_id, data_in, AreBefore, AreNumbered, IsBetween, longest_packet};
 ghost use Rattle.mesh_radio.specs.Radios.{opening, most_copies_at_first, with_more_room, with_link, without_link, with_copies, with_copy, with_double, without_copy, receivers, AreLinksOf};
 
 use crate::adjacency::Adjacency;
 use crate::copies::{Copies, Held};
-use mesh_base::{
-    Air, Bytes, Flying, FlyingView, LONGEST_PACKET, MOST_NODES, NoMemory, NodeSet, Packet,
-};
+use mesh_base::{Air, Flying, FlyingView, LONGEST_PACKET, MOST_NODES, NoMemory, NodeSet, Packet};
 use std::alloc::Global;
 use std::marker::Model;
 
@@ -201,26 +199,13 @@ impl Radio {
         self.copies.remove_found(id, to, hint)
     }
 
-    /// Takes the copy of this id out of the radio. None if no copy in flight has it. Copies of one
-    /// cast share a packet, so the answer has a copy of the packet: memory is asked for if that has
-    /// more than 32 bytes.
-    pub fn take(&mut self, alloc: Global, id: u64) -> Result<Option<Flying>, NoMemory>
-        ensures taken { IfOk result (λ copy. copy ≡ find_copy self.old.flying id) }
-        ensures gone { OnOk result (self.new ≡ without_copy self.old id) }
-        ensures short { IsCopyWithin self.old.flying id 32 → IsOk result }
-        ensures refused { OnErr result (self.new ≡ self.old) }
+    /// Takes the copy of this id out of the radio, with its packet, for which no memory is needed.
+    /// None if no copy in flight has it.
+    pub fn take(&mut self, id: u64) -> Option<Flying>
+        ensures taken { result ≡ find_copy self.old.flying id }
+        ensures gone { self.new ≡ without_copy self.old id }
     {
-        let Some(copy) = self.find(id) else {
-            return Ok(None);
-        };
-        let taken = Flying {
-            id: copy.id,
-            from: copy.from,
-            to: copy.to,
-            bytes: Bytes::copy_of(alloc, copy.bytes)?,
-        };
-        self.remove(id);
-        Ok(Some(taken))
+        self.copies.take(id)
     }
 
     /// The copy of this id, which stays in flight. None if no copy in flight has it.

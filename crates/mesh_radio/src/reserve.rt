@@ -1,8 +1,7 @@
 //! Memory for packets to come.
-ghost use Rattle.std.specs.Prelude.{◌≡◌, ◌<◌, ◌≤◌, ◌-◌, ◌↔◌, length, IsTrue, OnOk, OnErr};
+ghost use Rattle.std.specs.Prelude.{◌≡◌, ◌<◌, ◌≤◌, ◌-◌, ◌↔◌, length, IsTrue, OnOk, OnErr, IfSome};
 ghost use Rattle.mesh_radio.specs.Kept.{more_memory};
 
-use crate::shared::Shared;
 use crate::size_class::SizeClass;
 use mesh_base::{Bytes, NoMemory};
 use std::alloc::Global;
@@ -46,6 +45,11 @@ impl Reserve {
             long: SizeClass::new(alloc, 0),
             packets: 0,
         }
+    }
+
+    /// The allocator of the memory.
+    pub fn alloc(&self) -> Global {
+        self.alloc
     }
 
     /// Whether there is room for this many packets, each of this many bytes.
@@ -126,21 +130,34 @@ impl Reserve {
         own
     }
 
+    /// The bytes of a packet, for one copy: those given, which share another copy's memory, or else
+    /// those in the memory of at most one room.
+    pub fn fill_one(&mut self, shared: Option<Bytes>, bytes: &[u8]) -> Bytes
+        requires room { 1 ≤ self.old.room }
+        requires fits { length bytes.now ≤ self.old.most }
+        requires same { IfSome shared (λ s. s ≡ bytes.now) }
+        ensures bytes { result ≡ bytes.now }
+        ensures room { self.new ≡ record self.old { room = self.old.room - 1 } }
+    {
+        match shared {
+            Some(second) => {
+                self.packets -= 1;
+                second
+            }
+            None => self.fill(bytes, 1),
+        }
+    }
+
     /// The bytes of a packet once more, for one copy: shared with the packet or, if they can't be,
     /// in the memory of at most one room.
-    pub fn double(&mut self, packet: &mut Shared) -> Shared
+    pub fn double(&mut self, packet: &mut Bytes) -> Bytes
         requires room { 1 ≤ self.old.room }
         requires fits { length packet.old ≤ self.old.most }
         ensures same { packet.new ≡ packet.old }
         ensures bytes { result ≡ packet.old }
         ensures room { self.new ≡ record self.old { room = self.old.room - 1 } }
     {
-        match packet.share(self.alloc) {
-            Some(second) => {
-                self.packets -= 1;
-                second
-            }
-            None => Shared::own(self.fill(packet.as_slice(), 1)),
-        }
+        let shared = packet.share(self.alloc);
+        self.fill_one(shared, packet.as_slice())
     }
 }

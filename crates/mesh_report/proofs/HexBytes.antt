@@ -1,6 +1,6 @@
 -- What the table of the two digits of each byte holds.
-use Rattle.std.proofs.Common.{◌≡◌, ℕ, zero, suc, ◌+◌, ◌<◌, List, [], ◌∷◌, ◌++◌, get_or, refl, ap, ◌∙◌, arith}
-use Rattle.std.specs.List.{flat_map}
+use Rattle.std.proofs.Common.{◌≡◌, ℕ, zero, suc, ◌+◌, ◌-◌, ◌<◌, ◌≤◌, List, [], ◌∷◌, ◌++◌, get_or, take, drop, length, refl, ap, ◌∙◌, arith}
+use Rattle.std.proofs.lemmas.List.{take_rest}
 use Rattle.mesh_text.specs.Lines.{hex, hex_byte}
 use Rattle.mesh_report.specs.declared.text.TheConstants.{HEX}
 
@@ -27,11 +27,30 @@ hex_is b lt =
     let same : 0 + b ≡ b = omega arith in
     ap (λ (rows : List (List ℕ)). get_or rows b []) table ∙ digits_at 256 0 b lt ∙ ap hex_byte same
 
--- the digits of four bytes, one row of the table after another
-pub four_are : (a b c d : ℕ) → a < 256 → b < 256 → c < 256 → d < 256
-    → flat_map (λ (x : List ℕ). x) (get_or HEX a [] ∷ get_or HEX b [] ∷ get_or HEX c [] ∷ get_or HEX d [] ∷ []) ≡ hex (a ∷ b ∷ c ∷ d ∷ [])
-four_are a b c d la lb lc ld =
-    ap (λ (x : List ℕ). x ++ (get_or HEX b [] ++ (get_or HEX c [] ++ (get_or HEX d [] ++ [])))) (hex_is a la)
-    ∙ ap (λ (x : List ℕ). hex_byte a ++ (x ++ (get_or HEX c [] ++ (get_or HEX d [] ++ [])))) (hex_is b lb)
-    ∙ ap (λ (x : List ℕ). hex_byte a ++ (hex_byte b ++ (x ++ (get_or HEX d [] ++ [])))) (hex_is c lc)
-    ∙ ap (λ (x : List ℕ). hex_byte a ++ (hex_byte b ++ (hex_byte c ++ (x ++ [])))) (hex_is d ld)
+front : (xs : List ℕ) → 4 ≤ length xs → hex xs ≡ hex (get_or xs 0 0 ∷ get_or xs 1 0 ∷ get_or xs 2 0 ∷ get_or xs 3 0 ∷ []) ++ hex (drop 4 xs)
+front [] le = absurd (omega arith)
+front (a ∷ []) le = absurd (omega arith)
+front (a ∷ b ∷ []) le = absurd (omega arith)
+front (a ∷ b ∷ c ∷ []) le = absurd (omega arith)
+front (a ∷ b ∷ c ∷ d ∷ rest) le = refl
+
+-- the digits of the first four bytes, and those of the others
+pub hex_front : (xs : List ℕ) → 4 ≤ length xs → hex xs ≡ hex (get_or xs 0 0 ∷ get_or xs 1 0 ∷ get_or xs 2 0 ∷ get_or xs 3 0 ∷ []) ++ hex (take (length xs - 4) (drop 4 xs))
+hex_front xs le = rw take_rest (front xs le)
+
+front_eight : (xs : List ℕ) → 8 ≤ length xs → hex xs ≡ (hex (get_or xs 0 0 ∷ get_or xs 1 0 ∷ get_or xs 2 0 ∷ get_or xs 3 0 ∷ []) ++ hex (get_or xs 4 0 ∷ get_or xs 5 0 ∷ get_or xs 6 0 ∷ get_or xs 7 0 ∷ [])) ++ hex (drop 8 xs)
+front_eight [] le = absurd (omega arith)
+front_eight (a ∷ []) le = absurd (omega arith)
+front_eight (a ∷ b ∷ []) le = absurd (omega arith)
+front_eight (a ∷ b ∷ c ∷ []) le = absurd (omega arith)
+front_eight (a ∷ b ∷ c ∷ d ∷ []) le = absurd (omega arith)
+front_eight (a ∷ b ∷ c ∷ d ∷ e ∷ []) le = absurd (omega arith)
+front_eight (a ∷ b ∷ c ∷ d ∷ e ∷ f ∷ []) le = absurd (omega arith)
+front_eight (a ∷ b ∷ c ∷ d ∷ e ∷ f ∷ g ∷ []) le = absurd (omega arith)
+front_eight (a ∷ b ∷ c ∷ d ∷ e ∷ f ∷ g ∷ h ∷ rest) le = refl
+
+-- the digits of the first eight bytes, in two halves, and those of the others
+pub hex_front_eight : (xs front back : List ℕ) → 8 ≤ length xs
+    → front ≡ hex (get_or xs 0 0 ∷ get_or xs 1 0 ∷ get_or xs 2 0 ∷ get_or xs 3 0 ∷ []) → back ≡ hex (get_or xs 4 0 ∷ get_or xs 5 0 ∷ get_or xs 6 0 ∷ get_or xs 7 0 ∷ [])
+    → hex xs ≡ (front ++ back) ++ hex (take (length xs - 8) (drop 8 xs))
+hex_front_eight xs front back le p q = rw (p, q) (rw take_rest (front_eight xs le))

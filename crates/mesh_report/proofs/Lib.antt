@@ -1,12 +1,14 @@
--- Appended: pieces that are appended one after the other, as one text.
-pub mod Appended
+-- Pieces: a text that is put piece after piece.
+pub mod Pieces
+-- Each: a text for each item of a list.
+pub mod Each
+-- Members: the members of a set, and their names.
 pub mod Members
-pub mod Packets
-pub mod Copies
-pub mod Lengths
-pub mod Dones
-pub mod Legible
--- Gathering: texts that are put in part.
-pub mod Gathering
+-- Decimals: numbers of more than four digits.
+pub mod Decimals
 -- HexBytes: the table of the two digits of each byte.
 pub mod HexBytes
+-- Copies: the lines of copies.
+pub mod Copies
+-- Legible: what the texts by bytes are in the definitions' words.
+pub mod Legible

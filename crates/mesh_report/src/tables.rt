@@ -1,153 +1,129 @@
 //! The lines of a node's state, of a route's end, and of the copies in flight.
-ghost use Rattle.std.specs.Prelude.{◌≡◌, ◌+◌, ◌<◌, ◌≤◌, ◌++◌, ◌∷◌, length};
+ghost use Rattle.std.specs.Prelude.{◌<◌, ◌++◌, ◌∷◌, length, codes};
 ghost use Rattle.std.specs.Fmt.{decimal};
 ghost use Rattle.mesh_base.specs.Views.{flying_seen};
 ghost use Rattle.aodv_model.specs.Soundness.{AreBelow};
-ghost use Rattle.mesh_meaning.specs.Packets.{copy_in, IsWrittenCopy};
-ghost use Rattle.mesh_text.specs.Tables.{number_line, asked_line, known_text, flag_text, entry_text, req_text, waits_line, stuck_line, flying_text};
+ghost use Rattle.mesh_grammar.specs.Written.{label_number};
+ghost use Rattle.mesh_text.specs.Lines.{name_of};
+ghost use Rattle.mesh_text.specs.Tables.{number_line, asked_line, known_text, flag_text, entry_text, req_text, waits_line, stuck_line};
 ghost use Rattle.mesh_io.specs.Cause.{HasCause};
 ghost use Rattle.mesh_io.specs.Puts.{Puts};
+ghost use Rattle.mesh_report.specs.Packets.{flying_line};
 
-use crate::text::{push_labelled, push_one, push_packet, push_set, push_two};
-use crate::widths::{ENTRY_LINE, FLYING_LINE, QUALITY_WIDTH};
+use crate::text::{
+    put_byte, put_decimal, put_hex_word, put_labelled, put_one, put_set_word, put_text,
+};
 use aodv_model::{Entry, Flag, Known};
-use mesh_base::{FlyingView, LINE_CAPACITY, LineBuf, Mesh, push_number, push_text};
+use mesh_base::{Flying, FlyingView, Mesh};
 use mesh_io::{PutFault, Sink, put_all};
-use mesh_script::NUMBER_WIDTH;
 
 // ---- a node
 
-fn push_number_line(out: &mut LineBuf, label: &[u8], n: u64)
-    requires room { length out.old + length label.now + NUMBER_WIDTH + 4 ≤ LINE_CAPACITY }
-    ensures text { out.new ≡ out.old ++ number_line label.now n }
-{
-    push_text(out, b"  ");
-    push_text(out, label);
-    push_labelled(out, b" ", n);
-    out.push(b'\n');
-}
-
 /// Writes a label, and a number of a node or the hops of a route after it.
-pub fn put_number<O: Sink>(
-    label: &[u8],
-    n: u64,
-    buf: &mut LineBuf,
-    out: &mut O,
-) -> Result<(), PutFault>
-    requires short { length label.now ≤ 100 }
+#[inline(never)]
+pub fn put_number<O: Sink>(label: &str, n: u64, out: &mut O) -> Result<(), PutFault>
     ensures text { Puts (O.held out.old) (O.held out.new) (number_line label.now n) result }
     ensures cause { HasCause (O.faults out.old) (O.faults out.new) result }
 {
-    buf.clear();
-    push_number_line(buf, label, n);
-    put_all(out, buf.as_slice())
+    put_text(b"  ", out)?;
+    put_all(out, label.as_bytes())?;
+    put_labelled(b" ", n, out)?;
+    put_byte(b'\n', out)
 }
 
 /// Writes a request that a node has seen: its originator and its id.
-#[tactic(auto, unfolding(mesh_text::specs::Tables::asked_line))]
-pub fn put_asked<O: Sink>(
-    mesh: &Mesh,
-    o: usize,
-    id: u32,
-    buf: &mut LineBuf,
-    out: &mut O,
-) -> Result<(), PutFault>
+#[inline(never)]
+pub fn put_asked<O: Sink>(mesh: &Mesh, o: usize, id: u32, out: &mut O) -> Result<(), PutFault>
     requires originator { o < length mesh.now }
     ensures text { Puts (O.held out.old) (O.held out.new) (asked_line mesh.now o id) result }
     ensures cause { HasCause (O.faults out.old) (O.faults out.new) result }
 {
-    buf.clear();
-    push_one(buf, b"  asked ", mesh, o);
-    push_labelled(buf, b" ", u64::from(id));
-    buf.push(b'\n');
-    put_all(out, buf.as_slice())
+    put_one(b"  asked ", mesh, o, out)?;
+    put_labelled(b" ", u64::from(id), out)?;
+    put_byte(b'\n', out)
 }
 
-fn known_word(known: Known) -> &'static [u8]
-    ensures text { result.now ≡ known_text known }
-    ensures length { length result.now ≡ 5 }
+fn put_known<O: Sink>(known: Known, out: &mut O) -> Result<(), PutFault>
+    ensures text { Puts (O.held out.old) (O.held out.new) (known_text known) result }
+    ensures cause { HasCause (O.faults out.old) (O.faults out.new) result }
 {
     match known {
-        Known::Kno => b" kno ",
-        Known::Unk => b" unk ",
+        Known::Kno => put_text(b" kno ", out),
+        Known::Unk => put_text(b" unk ", out),
     }
 }
 
-fn flag_word(flag: Flag) -> &'static [u8]
-    ensures text { result.now ≡ flag_text flag }
-    ensures length { length result.now ≡ 4 }
+fn put_flag<O: Sink>(flag: Flag, out: &mut O) -> Result<(), PutFault>
+    ensures text { Puts (O.held out.old) (O.held out.new) (flag_text flag) result }
+    ensures cause { HasCause (O.faults out.old) (O.faults out.new) result }
 {
     match flag {
-        Flag::Val => b"val ",
-        Flag::Inv => b"inv ",
+        Flag::Val => put_text(b"val ", out),
+        Flag::Inv => put_text(b"inv ", out),
     }
 }
 
-// Appends an entry's number and whether it is known, whether the route is valid, and its hops.
-#[tactic(auto, using(std::proofs::lemmas::List::append_assoc))]
-fn push_quality(out: &mut LineBuf, e: &Entry)
-    requires room { length out.old + QUALITY_WIDTH ≤ LINE_CAPACITY }
-    ensures text { out.new ≡ out.old
-        ++ (32 ∷ decimal e.now.dsn ++ known_text e.now.dsk ++ flag_text e.now.flag
-        ++ decimal e.now.hops) }
-    ensures length { length out.new ≤ length out.old + QUALITY_WIDTH }
+// Writes an entry's destination, its number and its status, and whether its route is valid.
+fn put_status<O: Sink>(mesh: &Mesh, d: usize, e: &Entry, out: &mut O) -> Result<(), PutFault>
+    requires { d < length mesh.now }
+    ensures text { Puts (O.held out.old) (O.held out.new)
+        (codes "  entry " ++ name_of mesh.now d ++ 32 ∷ decimal e.now.dsn ++ known_text e.now.dsk
+        ++ flag_text e.now.flag) result }
+    ensures cause { HasCause (O.faults out.old) (O.faults out.new) result }
 {
-    push_labelled(out, b" ", u64::from(e.dsn));
-    push_text(out, known_word(e.dsk));
-    push_text(out, flag_word(e.flag));
-    push_number(out, u64::from(e.hops));
+    put_one(b"  entry ", mesh, d, out)?;
+    put_labelled(b" ", u64::from(e.dsn), out)?;
+    put_known(e.dsk, out)?;
+    put_flag(e.flag, out)
 }
 
-// Appends the entry for d.
-fn push_entry(out: &mut LineBuf, mesh: &Mesh, d: usize, e: &Entry)
+// Writes the same, and then the hops and the next hop.
+fn put_route<O: Sink>(mesh: &Mesh, d: usize, e: &Entry, out: &mut O) -> Result<(), PutFault>
     requires dest { d < length mesh.now }
     requires next { e.now.next < length mesh.now }
-    requires precursors { AreBelow (length mesh.now) e.now.pre }
-    requires room { length out.old + ENTRY_LINE ≤ LINE_CAPACITY }
-    ensures text { out.new ≡ out.old ++ entry_text mesh.now d e.now }
+    ensures text { Puts (O.held out.old) (O.held out.new)
+        (codes "  entry " ++ name_of mesh.now d ++ 32 ∷ decimal e.now.dsn ++ known_text e.now.dsk
+        ++ flag_text e.now.flag ++ decimal e.now.hops ++ 32 ∷ name_of mesh.now e.now.next)
+        result }
+    ensures cause { HasCause (O.faults out.old) (O.faults out.new) result }
 {
-    push_one(out, b"  entry ", mesh, d);
-    push_quality(out, e);
-    push_one(out, b" ", mesh, e.next);
-    out.push(b' ');
-    push_set(out, mesh, &e.pre);
-    out.push(b'\n');
+    put_status(mesh, d, e, out)?;
+    put_decimal(u64::from(e.hops), out)?;
+    put_one(b" ", mesh, e.next, out)
 }
 
 /// Writes the entry for node d.
-pub fn put_entry<O: Sink>(
-    mesh: &Mesh,
-    d: usize,
-    e: &Entry,
-    buf: &mut LineBuf,
-    out: &mut O,
-) -> Result<(), PutFault>
+#[inline(never)]
+pub fn put_entry<O: Sink>(mesh: &Mesh, d: usize, e: &Entry, out: &mut O) -> Result<(), PutFault>
     requires dest { d < length mesh.now }
     requires next { e.now.next < length mesh.now }
     requires precursors { AreBelow (length mesh.now) e.now.pre }
     ensures text { Puts (O.held out.old) (O.held out.new) (entry_text mesh.now d e.now) result }
     ensures cause { HasCause (O.faults out.old) (O.faults out.new) result }
 {
-    buf.clear();
-    push_entry(buf, mesh, d, e);
-    put_all(out, buf.as_slice())
+    put_route(mesh, d, e, out)?;
+    put_set_word(mesh, &e.pre, out)?;
+    put_byte(b'\n', out)
 }
 
-fn req_word(needs_request: bool) -> &'static [u8]
-    ensures text { result.now ≡ req_text needs_request }
-    ensures length { length result.now ≤ 7 }
+fn put_req<O: Sink>(needs_request: bool, out: &mut O) -> Result<(), PutFault>
+    ensures text { Puts (O.held out.old) (O.held out.new) (req_text needs_request) result }
+    ensures cause { HasCause (O.faults out.old) (O.faults out.new) result }
 {
-    if needs_request { b" req " } else { b" noreq " }
+    if needs_request {
+        put_text(b" req ", out)
+    } else {
+        put_text(b" noreq ", out)
+    }
 }
 
 /// Writes how many data wait for node d, and whether a request for it is still to be made.
-#[tactic(auto, unfolding(mesh_text::specs::Tables::waits_line))]
+#[inline(never)]
 pub fn put_waits<O: Sink>(
     mesh: &Mesh,
     d: usize,
     needs_request: bool,
     count: usize,
-    buf: &mut LineBuf,
     out: &mut O,
 ) -> Result<(), PutFault>
     requires dest { d < length mesh.now }
@@ -155,67 +131,74 @@ pub fn put_waits<O: Sink>(
         (waits_line mesh.now d needs_request count) result }
     ensures cause { HasCause (O.faults out.old) (O.faults out.new) result }
 {
-    buf.clear();
-    push_one(buf, b"  waits ", mesh, d);
-    push_text(buf, req_word(needs_request));
-    push_number(buf, count as u64);
-    buf.push(b'\n');
-    put_all(out, buf.as_slice())
+    put_one(b"  waits ", mesh, d, out)?;
+    put_req(needs_request, out)?;
+    put_decimal(count as u64, out)?;
+    put_byte(b'\n', out)
 }
 
 // ---- a route
 
 /// Writes the node at which the valid routes for a destination end, and how many hops lead there.
-#[tactic(auto, unfolding(mesh_text::specs::Tables::stuck_line))]
-pub fn put_stuck<O: Sink>(
-    mesh: &Mesh,
-    at: usize,
-    hops: usize,
-    buf: &mut LineBuf,
-    out: &mut O,
-) -> Result<(), PutFault>
+#[inline(never)]
+pub fn put_stuck<O: Sink>(mesh: &Mesh, at: usize, hops: usize, out: &mut O) -> Result<(), PutFault>
     requires node { at < length mesh.now }
     ensures text { Puts (O.held out.old) (O.held out.new) (stuck_line mesh.now at hops) result }
     ensures cause { HasCause (O.faults out.old) (O.faults out.new) result }
 {
-    buf.clear();
-    push_one(buf, b"  stuck ", mesh, at);
-    push_labelled(buf, b" ", hops as u64);
-    buf.push(b'\n');
-    put_all(out, buf.as_slice())
+    put_one(b"  stuck ", mesh, at, out)?;
+    put_labelled(b" ", hops as u64, out)?;
+    put_byte(b'\n', out)
 }
 
 // ---- the radio
 
-// Appends a copy in flight.
-fn push_flying(out: &mut LineBuf, mesh: &Mesh, f: &FlyingView<'_>)
+// Writes a copy's id, sender and receiver.
+fn put_ends<O: Sink>(mesh: &Mesh, f: &FlyingView<'_>, out: &mut O) -> Result<(), PutFault>
     requires from { f.now.from < length mesh.now }
     requires to { f.now.to < length mesh.now }
-    requires written { IsWrittenCopy mesh.now (flying_seen f.now) }
-    requires room { length out.old + FLYING_LINE ≤ LINE_CAPACITY }
-    ensures text { out.new
-        ≡ out.old ++ flying_text mesh.now (copy_in mesh.now (flying_seen f.now)) }
+    ensures text { Puts (O.held out.old) (O.held out.new)
+        (label_number (codes "  copy ") f.now.id ++ 32 ∷ name_of mesh.now f.now.from
+        ++ 32 ∷ name_of mesh.now f.now.to) result }
+    ensures cause { HasCause (O.faults out.old) (O.faults out.new) result }
 {
-    push_labelled(out, b"  copy ", f.id);
-    push_two(out, b" ", mesh, f.from, f.to);
-    push_packet(out, f.bytes);
+    put_labelled(b"  copy ", f.id, out)?;
+    put_one(b" ", mesh, f.from, out)?;
+    put_one(b" ", mesh, f.to, out)
 }
 
-/// Writes a copy in flight.
-pub fn put_flying<O: Sink>(
+/// Writes a copy in flight that is only looked at: its id, sender and receiver, and its packet as
+/// it is.
+#[inline(never)]
+pub fn put_flying_view<O: Sink>(
     mesh: &Mesh,
     f: &FlyingView<'_>,
-    buf: &mut LineBuf,
     out: &mut O,
 ) -> Result<(), PutFault>
     requires from { f.now.from < length mesh.now }
     requires to { f.now.to < length mesh.now }
-    requires written { IsWrittenCopy mesh.now (flying_seen f.now) }
     ensures text { Puts (O.held out.old) (O.held out.new)
-        (flying_text mesh.now (copy_in mesh.now (flying_seen f.now))) result }
+        (flying_line mesh.now (flying_seen f.now)) result }
     ensures cause { HasCause (O.faults out.old) (O.faults out.new) result }
 {
-    buf.clear();
-    push_flying(buf, mesh, f);
-    put_all(out, buf.as_slice())
+    put_ends(mesh, f, out)?;
+    put_hex_word(f.bytes, out)?;
+    put_byte(b'\n', out)
+}
+
+/// Writes a copy in flight: its id, sender and receiver, and its packet as it is.
+#[inline]
+pub fn put_flying<O: Sink>(mesh: &Mesh, f: &Flying, out: &mut O) -> Result<(), PutFault>
+    requires from { f.now.from < length mesh.now }
+    requires to { f.now.to < length mesh.now }
+    ensures text { Puts (O.held out.old) (O.held out.new) (flying_line mesh.now f.now) result }
+    ensures cause { HasCause (O.faults out.old) (O.faults out.new) result }
+{
+    let view = FlyingView {
+        id: f.id,
+        from: f.from,
+        to: f.to,
+        bytes: f.bytes.as_slice(),
+    };
+    put_flying_view(mesh, &view, out)
 }

@@ -1,70 +1,132 @@
-//! Names of nodes, numbers and bytes, each appended to a line's buffer.
-ghost use Rattle.std.specs.Prelude.{◌≡◌, ◌+◌, ◌*◌, ◌<◌, ◌≤◌, ◌++◌, ◌∷◌, [], length};
+//! Names of nodes, numbers and bytes, each written to a sink.
+ghost use Rattle.std.specs.Prelude.{◌≡◌, ◌<◌, ◌≤◌, ◌+◌, ◌++◌, ◌∷◌, [], length, take, codes};
 ghost use Rattle.std.specs.List.{flat_map};
-ghost use Rattle.mesh_base.specs.Meshes.{Nodes};
-ghost use Rattle.aodv_meaning.specs.Meaning.{meaning};
-ghost use Rattle.mesh_meaning.specs.Packets.{IsWritten, packet_of};
-ghost use Rattle.mesh_grammar.specs.Written.{line, label_number};
+ghost use Rattle.std.specs.Fmt.{decimal};
+ghost use Rattle.mesh_base.specs.Addresses.{dotted_decimal};
+ghost use Rattle.mesh_base.specs.InlineBytes.{inline_bytes};
+ghost use Rattle.mesh_grammar.specs.Written.{label_number};
 ghost use Rattle.mesh_text.specs.Lines.{name_of, of_one, of_two, hex, hex_byte};
 ghost use Rattle.mesh_text.specs.Effects.{shown_byte, set_text};
 ghost use Rattle.aodv_model.specs.Soundness.{AreBelow};
+ghost use Rattle.mesh_io.specs.Cause.{HasCause};
+ghost use Rattle.mesh_io.specs.Puts.{Puts};
 
-use crate::widths::{SET_WIDTH, TWO_ADDRESSES};
-use mesh_base::{LINE_CAPACITY, LineBuf, Mesh, NodeSet, push_number, push_text};
-use mesh_script::{ADDRESS_WIDTH, NUMBER_WIDTH};
+use mesh_base::{Addr, Mesh, NodeSet, ShortText, dotted, four_digits, short, short_decimal};
+use mesh_io::{PutFault, Sink};
 
-/// Appends a node's address.
+/// Writes a text of at most 16 bytes, whose length is known at compile time.
 #[inline(always)]
-pub(crate) fn push_name(out: &mut LineBuf, mesh: &Mesh, i: usize)
-    requires node { i < length mesh.now }
-    requires room { length out.old + ADDRESS_WIDTH ≤ LINE_CAPACITY }
-    ensures text { out.new ≡ out.old ++ name_of mesh.now i }
-    ensures length { length out.new ≤ length out.old + ADDRESS_WIDTH }
+pub(crate) fn put_text<O: Sink, const WIDTH: usize>(
+    text: &[u8; WIDTH],
+    out: &mut O,
+) -> Result<(), PutFault>
+    requires { WIDTH ≤ 16 }
+    ensures text { Puts (O.held out.old) (O.held out.new) text.now result }
+    ensures cause { HasCause (O.faults out.old) (O.faults out.new) result }
 {
-    mesh.push_name(i, out);
+    out.put_short(&short(text))
 }
 
-/// Appends a label, and a node's address.
+/// Writes a byte.
 #[inline(always)]
-pub(crate) fn push_one<const N: usize>(out: &mut LineBuf, label: &[u8; N], mesh: &Mesh, i: usize)
-    requires node { i < length mesh.now }
-    requires room { length out.old + length label.now + ADDRESS_WIDTH ≤ LINE_CAPACITY }
-    ensures text { out.new ≡ out.old ++ of_one label.now mesh.now i }
-    ensures length { length out.new ≤ length out.old + length label.now + ADDRESS_WIDTH }
+pub(crate) fn put_byte<O: Sink>(b: u8, out: &mut O) -> Result<(), PutFault>
+    ensures text { Puts (O.held out.old) (O.held out.new) (b ∷ []) result }
+    ensures cause { HasCause (O.faults out.old) (O.faults out.new) result }
 {
-    out.push_array(label);
-    push_name(out, mesh, i);
+    put_text(&[b], out)
 }
 
-/// Appends a label, and two nodes' addresses with a space between them.
+/// Writes an address.
+#[inline(never)]
+pub(crate) fn put_address<O: Sink>(a: Addr, out: &mut O) -> Result<(), PutFault>
+    ensures text { Puts (O.held out.old) (O.held out.new) (dotted_decimal a.0) result }
+    ensures cause { HasCause (O.faults out.old) (O.faults out.new) result }
+{
+    out.put_short(&dotted(a))
+}
+
+/// Writes a space, and an address.
+pub(crate) fn put_address_word<O: Sink>(a: Addr, out: &mut O) -> Result<(), PutFault>
+    ensures text { Puts (O.held out.old) (O.held out.new) (32 ∷ dotted_decimal a.0) result }
+    ensures cause { HasCause (O.faults out.old) (O.faults out.new) result }
+{
+    put_byte(b' ', out)?;
+    put_address(a, out)
+}
+
+/// Writes a node's address.
 #[inline(always)]
-pub(crate) fn push_two<const N: usize>(
-    out: &mut LineBuf,
-    label: &[u8; N],
+pub(crate) fn put_name<O: Sink>(mesh: &Mesh, i: usize, out: &mut O) -> Result<(), PutFault>
+    requires { i < length mesh.now }
+    ensures text { Puts (O.held out.old) (O.held out.new) (name_of mesh.now i) result }
+    ensures cause { HasCause (O.faults out.old) (O.faults out.new) result }
+{
+    out.put_short(&mesh.name(i))
+}
+
+/// Writes a number.
+#[inline(never)]
+pub(crate) fn put_decimal<O: Sink>(n: u64, out: &mut O) -> Result<(), PutFault>
+    ensures text { Puts (O.held out.old) (O.held out.new) (decimal n) result }
+    ensures cause { HasCause (O.faults out.old) (O.faults out.new) result }
+{
+    if n < 100_000_000 {
+        return out.put_short(&short_decimal(n as u32));
+    }
+    put_decimal(n / 10_000, out)?;
+    put_text(&four_digits((n % 10_000) as u32), out)
+}
+
+/// Writes a label, and a node's address.
+#[inline(always)]
+pub(crate) fn put_one<O: Sink, const WIDTH: usize>(
+    label: &[u8; WIDTH],
+    mesh: &Mesh,
+    i: usize,
+    out: &mut O,
+) -> Result<(), PutFault>
+    requires width { WIDTH ≤ 16 }
+    requires node { i < length mesh.now }
+    ensures text { Puts (O.held out.old) (O.held out.new) (of_one label.now mesh.now i) result }
+    ensures cause { HasCause (O.faults out.old) (O.faults out.new) result }
+{
+    put_text(label, out)?;
+    put_name(mesh, i, out)
+}
+
+/// Writes a label, and two nodes' addresses with a space between them.
+#[inline(always)]
+pub(crate) fn put_two<O: Sink, const WIDTH: usize>(
+    label: &[u8; WIDTH],
     mesh: &Mesh,
     i: usize,
     j: usize,
-)
+    out: &mut O,
+) -> Result<(), PutFault>
+    requires width { WIDTH ≤ 16 }
     requires first { i < length mesh.now }
     requires second { j < length mesh.now }
-    requires room { length out.old + length label.now + TWO_ADDRESSES ≤ LINE_CAPACITY }
-    ensures text { out.new ≡ out.old ++ of_two label.now mesh.now i j }
-    ensures length { length out.new ≤ length out.old + length label.now + TWO_ADDRESSES }
+    ensures text { Puts (O.held out.old) (O.held out.new) (of_two label.now mesh.now i j) result }
+    ensures cause { HasCause (O.faults out.old) (O.faults out.new) result }
 {
-    push_one(out, label, mesh, i);
-    out.push(b' ');
-    push_name(out, mesh, j);
+    put_text(label, out)?;
+    put_name(mesh, i, out)?;
+    put_one(b" ", mesh, j, out)
 }
 
-/// Appends a label, and a number.
+/// Writes a label, and a number.
 #[inline(always)]
-pub(crate) fn push_labelled<const N: usize>(out: &mut LineBuf, label: &[u8; N], n: u64)
-    requires room { length out.old + length label.now + NUMBER_WIDTH ≤ LINE_CAPACITY }
-    ensures text { out.new ≡ out.old ++ label_number label.now n }
-    ensures length { length out.new ≤ length out.old + length label.now + NUMBER_WIDTH }
+pub(crate) fn put_labelled<O: Sink, const WIDTH: usize>(
+    label: &[u8; WIDTH],
+    n: u64,
+    out: &mut O,
+) -> Result<(), PutFault>
+    requires { WIDTH ≤ 16 }
+    ensures text { Puts (O.held out.old) (O.held out.new) (label_number label.now n) result }
+    ensures cause { HasCause (O.faults out.old) (O.faults out.new) result }
 {
-    out.push_array(label);
-    push_number(out, n);
+    put_text(label, out)?;
+    put_decimal(n, out)
 }
 
 // The two hexadecimal digits of each byte.
@@ -93,113 +155,192 @@ static HEX: [[u8; 2]; 256] = [
     *b"fc", *b"fd", *b"fe", *b"ff",
 ];
 
-// Appends the two hexadecimal digits of a byte.
-fn push_hex_byte(out: &mut LineBuf, b: u8)
-    requires room { length out.old + 2 ≤ LINE_CAPACITY }
-    ensures text { out.new ≡ out.old ++ hex_byte b }
-    ensures length { length out.new ≡ length out.old + 2 }
+// The two hexadecimal digits of a byte.
+#[inline(always)]
+fn digits(b: u8) -> [u8; 2]
+    ensures { result ≡ hex_byte b }
 {
-    out.push_array(&HEX[b as usize]);
+    HEX[b as usize]
 }
 
-// Appends the digits of four bytes at once.
-fn push_hex_four(out: &mut LineBuf, a: u8, b: u8, c: u8, d: u8)
-    requires room { length out.old + 8 ≤ LINE_CAPACITY }
-    ensures text { out.new ≡ out.old ++ hex (a ∷ b ∷ c ∷ d ∷ []) }
-    ensures length { length out.new ≡ length out.old + 8 }
+// Writes the two digits of a byte.
+#[inline(always)]
+fn put_digits<O: Sink>(b: u8, out: &mut O) -> Result<(), PutFault>
+    ensures text { Puts (O.held out.old) (O.held out.new) (hex_byte b) result }
+    ensures cause { HasCause (O.faults out.old) (O.faults out.new) result }
 {
-    let digits = [
-        HEX[a as usize],
-        HEX[b as usize],
-        HEX[c as usize],
-        HEX[d as usize],
-    ];
-    out.push_slice(digits.as_flattened());
+    put_text(&digits(b), out)
 }
 
-// Appends the digits of these bytes, one byte after another.
-fn push_hex_bytes(out: &mut LineBuf, bytes: &[u8])
-    requires room { length out.old + 2 * length bytes.now ≤ LINE_CAPACITY }
-    ensures text { out.new ≡ out.old ++ hex bytes.now }
-    ensures length { length out.new ≡ length out.old + 2 * length bytes.now }
+// The digits of four bytes.
+#[inline(always)]
+fn eight_digits(a: u8, b: u8, c: u8, d: u8) -> [u8; 8]
+    ensures { result ≡ hex (a ∷ b ∷ c ∷ d ∷ []) }
+{
+    let [p, q] = digits(a);
+    let [r, s] = digits(b);
+    let [t, u] = digits(c);
+    let [v, w] = digits(d);
+    [p, q, r, s, t, u, v, w]
+}
+
+// Writes the digits of four bytes at once.
+#[inline(always)]
+fn put_four<O: Sink>(a: u8, b: u8, c: u8, d: u8, out: &mut O) -> Result<(), PutFault>
+    ensures text { Puts (O.held out.old) (O.held out.new) (hex (a ∷ b ∷ c ∷ d ∷ [])) result }
+    ensures cause { HasCause (O.faults out.old) (O.faults out.new) result }
+{
+    put_text(&eight_digits(a, b, c, d), out)
+}
+
+// Writes eight digits to the cells from `at` on.
+#[inline(always)]
+fn join(cells: &mut [u8; 16], at: usize, digits: &[u8; 8])
+    requires { at ≤ 8 }
+    ensures { take (at + 8) cells.new ≡ take at cells.old ++ digits.now }
+{
+    cells[at..at + 8].copy_from_slice(digits);
+}
+
+// The digits of eight bytes: those of the first four, and those of the others.
+#[inline(always)]
+fn joined(front: &[u8; 8], back: &[u8; 8]) -> ShortText
+    ensures { inline_bytes result ≡ front.now ++ back.now }
+{
+    let mut cells = [0; 16];
+    join(&mut cells, 0, front);
+    join(&mut cells, 8, back);
+    ShortText::front_of(cells, 16)
+}
+
+// Writes the digits of eight bytes at once.
+#[inline(always)]
+fn put_eight<O: Sink>(front: &[u8; 8], back: &[u8; 8], out: &mut O) -> Result<(), PutFault>
+    ensures text { Puts (O.held out.old) (O.held out.new) (front.now ++ back.now) result }
+    ensures cause { HasCause (O.faults out.old) (O.faults out.new) result }
+{
+    out.put_short(&joined(front, back))
+}
+
+// Writes the digits of these bytes, one byte after another.
+fn put_hex_bytes<O: Sink>(bytes: &[u8], out: &mut O) -> Result<(), PutFault>
+    ensures text { Puts (O.held out.old) (O.held out.new) (hex bytes.now) result }
+    ensures cause { HasCause (O.faults out.old) (O.faults out.new) result }
 {
     for b in bytes {
-        push_hex_byte(out, *b);
+        put_digits(*b, out)?;
     }
+    Ok(())
 }
 
-/// Appends bytes in hexadecimal.
-#[inline]
-pub(crate) fn push_hex(out: &mut LineBuf, bytes: &[u8])
-    requires room { length out.old + 2 * length bytes.now ≤ LINE_CAPACITY }
-    ensures text { out.new ≡ out.old ++ hex bytes.now }
-    ensures length { length out.new ≡ length out.old + 2 * length bytes.now }
+// Writes the digits of less than eight bytes: four at once, and then one after another.
+fn put_hex_rest<O: Sink>(bytes: &[u8], out: &mut O) -> Result<(), PutFault>
+    ensures text { Puts (O.held out.old) (O.held out.new) (hex bytes.now) result }
+    ensures cause { HasCause (O.faults out.old) (O.faults out.new) result }
+{
+    let [a, b, c, d, more @ ..] = bytes else {
+        return put_hex_bytes(bytes, out);
+    };
+    put_four(*a, *b, *c, *d, out)?;
+    put_hex_bytes(more, out)
+}
+
+/// Writes bytes in hexadecimal.
+pub(crate) fn put_hex<O: Sink>(bytes: &[u8], out: &mut O) -> Result<(), PutFault>
+    ensures text { Puts (O.held out.old) (O.held out.new) (hex bytes.now) result }
+    ensures cause { HasCause (O.faults out.old) (O.faults out.new) result }
 {
     let mut rest = bytes;
-    while let [a, b, c, d, more @ ..] = rest {
-        push_hex_four(out, *a, *b, *c, *d);
+    while let [a, b, c, d, e, f, g, h, more @ ..] = rest {
+        put_eight(
+            &eight_digits(*a, *b, *c, *d),
+            &eight_digits(*e, *f, *g, *h),
+            out,
+        )?;
         rest = more;
     }
-    push_hex_bytes(out, rest);
+    put_hex_rest(rest, out)
 }
 
-/// Appends a space, a packet in hexadecimal, and the LF that ends the line.
-#[inline]
-pub(crate) fn push_packet(out: &mut LineBuf, packet: &[u8])
-    requires room { length out.old + 2 * length packet.now + 2 ≤ LINE_CAPACITY }
-    ensures text { (mesh : Nodes) → IsWritten mesh packet.now
-        → out.new ≡ out.old ++ line (32 ∷ hex (packet_of mesh (meaning mesh packet.now))) }
-    ensures length { length out.new ≡ length out.old + 2 * length packet.now + 2 }
+/// Writes a space, and bytes in hexadecimal.
+#[inline(always)]
+pub(crate) fn put_hex_word<O: Sink>(bytes: &[u8], out: &mut O) -> Result<(), PutFault>
+    ensures text { Puts (O.held out.old) (O.held out.new) (32 ∷ hex bytes.now) result }
+    ensures cause { HasCause (O.faults out.old) (O.faults out.new) result }
 {
-    out.push(b' ');
-    push_hex(out, packet);
-    out.push(b'\n');
+    put_byte(b' ', out)?;
+    put_hex(bytes, out)
 }
 
-// Appends a byte of a datum in the form in which it is shown.
-fn push_shown_byte(out: &mut LineBuf, b: u8)
-    requires room { length out.old + 4 ≤ LINE_CAPACITY }
-    ensures text { out.new ≡ out.old ++ shown_byte b }
-    ensures length { length out.new ≤ length out.old + 4 }
+// Writes the escape of a byte: a backslash, an x, and the two hexadecimal digits.
+fn put_escaped<O: Sink>(b: u8, out: &mut O) -> Result<(), PutFault>
+    ensures text { Puts (O.held out.old) (O.held out.new) (codes "\\x" ++ hex_byte b) result }
+    ensures cause { HasCause (O.faults out.old) (O.faults out.new) result }
+{
+    put_text(b"\\x", out)?;
+    put_digits(b, out)
+}
+
+// Writes a byte of a datum in the form in which it is shown.
+fn put_shown_byte<O: Sink>(b: u8, out: &mut O) -> Result<(), PutFault>
+    ensures text { Puts (O.held out.old) (O.held out.new) (shown_byte b) result }
+    ensures cause { HasCause (O.faults out.old) (O.faults out.new) result }
 {
     if 32 <= b && b <= 126 && b != b'\\' {
-        out.push(b);
-        return;
+        put_byte(b, out)
+    } else {
+        put_escaped(b, out)
     }
-    push_text(out, b"\\x");
-    push_hex_byte(out, b);
 }
 
-/// Appends a datum in the form in which it is shown.
-pub(crate) fn push_shown(out: &mut LineBuf, body: &[u8])
-    requires room { length out.old + 4 * length body.now ≤ LINE_CAPACITY }
-    ensures text { out.new ≡ out.old ++ flat_map shown_byte body.now }
-    ensures length { length out.new ≤ length out.old + 4 * length body.now }
+// Writes a datum in the form in which it is shown.
+fn put_shown<O: Sink>(body: &[u8], out: &mut O) -> Result<(), PutFault>
+    ensures text { Puts (O.held out.old) (O.held out.new) (flat_map shown_byte body.now) result }
+    ensures cause { HasCause (O.faults out.old) (O.faults out.new) result }
 {
     for b in body {
-        push_shown_byte(out, *b);
+        put_shown_byte(*b, out)?;
     }
+    Ok(())
 }
 
-/// Appends the members of a set, in ascending order of address, joined by commas, or a hyphen if
+/// Writes a space, and a datum in the form in which it is shown.
+pub(crate) fn put_shown_word<O: Sink>(body: &[u8], out: &mut O) -> Result<(), PutFault>
+    ensures text { Puts (O.held out.old) (O.held out.new)
+        (32 ∷ flat_map shown_byte body.now) result }
+    ensures cause { HasCause (O.faults out.old) (O.faults out.new) result }
+{
+    put_byte(b' ', out)?;
+    put_shown(body, out)
+}
+
+/// Writes the members of a set, in ascending order of address, joined by commas, or a hyphen if
 /// there are none.
-pub(crate) fn push_set(out: &mut LineBuf, mesh: &Mesh, set: &NodeSet)
-    requires members { AreBelow (length mesh.now) set.now }
-    requires room { length out.old + SET_WIDTH ≤ LINE_CAPACITY }
-    ensures text { out.new ≡ out.old ++ set_text mesh.now set.now }
-    ensures length { length out.new ≤ length out.old + SET_WIDTH }
+pub(crate) fn put_set<O: Sink>(mesh: &Mesh, set: &NodeSet, out: &mut O) -> Result<(), PutFault>
+    requires { AreBelow (length mesh.now) set.now }
+    ensures text { Puts (O.held out.old) (O.held out.new) (set_text mesh.now set.now) result }
+    ensures cause { HasCause (O.faults out.old) (O.faults out.new) result }
 {
     // There are at most 200 nodes.
     let _nodes = mesh.len();
     let Some(first) = set.next_from(0) else {
-        out.push(b'-');
-        return;
+        return put_byte(b'-', out);
     };
-    push_name(out, mesh, first);
+    put_name(mesh, first, out)?;
     let mut start = first + 1;
     while let Some(node) = set.next_from(start) {
-        out.push(b',');
-        push_name(out, mesh, node);
+        put_one(b",", mesh, node, out)?;
         start = node + 1;
     }
+    Ok(())
+}
+
+/// Writes a space, and the members of a set.
+pub(crate) fn put_set_word<O: Sink>(mesh: &Mesh, set: &NodeSet, out: &mut O) -> Result<(), PutFault>
+    requires { AreBelow (length mesh.now) set.now }
+    ensures text { Puts (O.held out.old) (O.held out.new) (32 ∷ set_text mesh.now set.now) result }
+    ensures cause { HasCause (O.faults out.old) (O.faults out.new) result }
+{
+    put_byte(b' ', out)?;
+    put_set(mesh, set, out)
 }

@@ -3,7 +3,7 @@ use Rattle.std.proofs.Common.{◌≡◌, ℕ, ◌<◌, ◌+◌, ◌++◌, Bool, 
 use Rattle.std.specs.Prelude.{IfSome, ⊤}
 use Rattle.mesh_base.specs.Members.{NodeIds}
 use Rattle.mesh_base.specs.Meshes.{IsMesh}
-use Rattle.mesh_base.specs.declared.events.Counter.{Counter}
+use Rattle.mesh_base.specs.declared.events.Full.{Full as Counter}
 use Rattle.mesh_base.specs.declared.events.Effect as effects
 use Rattle.aodv_model.specs.Handlers.{Reaction, Effect, may_send, send, may_ask, ask}
 use Rattle.aodv_model.specs.Fullness.{send_full, ask_full}
@@ -14,8 +14,8 @@ use Rattle.aodv_handlers.specs.Made.{IsMade}
 use Rattle.aodv_node.specs.Seen.{NodeSeen, IsSoundNode}
 use Rattle.mesh_meaning.specs.Answers.{IsCastWritten}
 use Rattle.mesh_grammar.specs.Written.{line}
-use Rattle.mesh_peers.specs.Peers.{PeersSeen}
-use Rattle.mesh_peers.specs.Lines.{AcceptedLine, Nothing, Own, Peer, Up, Down, Give, Polls, Turns, Sends, Asks, Shows, words_of}
+use Rattle.mesh_script.specs.Peers.{PeersSeen}
+use Rattle.mesh_script.specs.NodeLines.{AcceptedLine, Nothing, Own, Peer, Up, Down, Give, Polls, Turns, Sends, Asks, Shows, words_of}
 use Rattle.mesh_router.specs.declared.stop.Stop.{Stop}
 use Rattle.mesh_router.specs.declared.stop.Stop.TheVariants as stop
 use Rattle.mesh_router.specs.Logs.{Log, nothing, text_log, followed_by}

@@ -12,17 +12,21 @@ use Rattle.mesh_text.specs.Lines.{name_of}
 use Rattle.std.specs.FinSet as sets
 use Rattle.mesh_base.specs.Members.{NodeIds}
 use Rattle.mesh_base.specs.Meshes.{Nodes}
-use Rattle.std.specs.Prelude.{option_map}
+use Rattle.std.specs.Prelude.{option_map, IfSome}
 use Rattle.std.specs.Borrow.{Bor}
 use Rattle.mesh_base.specs.declared.events.Effect.{Effect}
 use Rattle.mesh_base.specs.declared.events.Took.{Took}
-use Rattle.mesh_report.specs.Legible.{effect_text}
+use Rattle.mesh_meaning.specs.Answers.{IsCastWritten}
+use Rattle.mesh_report.specs.Legible.{IsTookLegible, effect_text}
+use Rattle.mesh_report.specs.Nodes.{IsTookOfMesh}
+use Rattle.mesh_report.specs.Packets.{step_lines}
+use Rattle.mesh_report.proofs.Legible.{step_is, took_of_mesh}
 use Rattle.mesh_router.specs.Peers.{IsPeer, ArePeers, code_text}
 use Rattle.mesh_router.specs.Routers.{all_below}
-use Rattle.mesh_peers.specs.Peers.{PeersSeen, port_of}
+use Rattle.mesh_script.specs.Peers.{PeersSeen, port_of}
 use Rattle.mesh_model.specs.Worlds.{members_below}
 use Rattle.mesh_base.proofs.Ranks.{members-none, members-next}
-use Rattle.mesh_report.proofs.Copies.{members-front}
+use Rattle.mesh_report.proofs.Members.{members-front}
 use Rattle.mesh_router.specs.Logs.{Log, followed_by}
 use Rattle.mesh_router.specs.Outputs.{Outputs, Adds, AddsPrefix}
 use Rattle.mesh_router.specs.Casts.{port_at, sent_to, sent_to_each}
@@ -86,9 +90,18 @@ abbrev pub port_line : Nodes → ℕ → ℕ → List ℕ
 port_line mesh x port = line (codes "  to " ++ name_of mesh x ++ 32 ∷ decimal port)
 
 -- what is written of an effect
-pub effect_is : (mesh : Nodes) (x : ℕ) (t : Option (Bor Took)) (e : Effect) (packet : List ℕ) → effect_text mesh x t e packet ≡ code_text mesh x (option_map (λ b. b.now) t) e packet
-effect_is mesh x None e packet = refl
-effect_is mesh x (Some t) e packet = refl
+code_is : (mesh : Nodes) (x : ℕ) (t : Option (Bor Took)) (e : Effect) (packet : List ℕ) → effect_text mesh x t e packet ≡ code_text mesh x (option_map (λ b. b.now) t) e packet
+code_is mesh x None e packet = refl
+code_is mesh x (Some t) e packet = refl
+
+pub effect_is : (mesh : Nodes) (x : ℕ) (t : Option (Bor Took)) (e : Effect) (packet : List ℕ) → IfSome t (λ b. IsTookLegible mesh b.now) → IsCastWritten mesh e.cast packet
+    → step_lines mesh x t e packet ≡ code_text mesh x (option_map (λ b. b.now) t) e packet
+effect_is mesh x t e packet is w = step_is mesh x t e packet is w ∙ code_is mesh x t e packet
+
+-- what was taken names only nodes of the mesh
+pub taken_of_mesh : (mesh : Nodes) (t : Option (Bor Took)) → IfSome t (λ b. IsTookLegible mesh b.now) → IfSome t (λ b. IsTookOfMesh mesh b.now)
+taken_of_mesh mesh None is = is
+taken_of_mesh mesh (Some t) is = took_of_mesh mesh t.now is
 
 -- ---- sets of peers
 

@@ -8,7 +8,7 @@ use Rattle.std.proofs.lemmas.Bool.{eqb-true}
 use Rattle.std.proofs.lemmas.List.Quantifiers.{position-Some}
 use Rattle.mesh_io.specs.Puts.{AppendsPrefix}
 use Rattle.mesh_link.specs.Datagrams.{Datagram}
-use Rattle.mesh_peers.specs.Peers.{PeersSeen, ArePeers, at_port}
+use Rattle.mesh_script.specs.Peers.{PeersSeen, ArePeers, at_port}
 use Rattle.mesh_grammar.specs.Written.{line}
 use Rattle.mesh_router.specs.declared.stop.Stop.{Stop}
 use Rattle.mesh_router.specs.declared.stop.Stop.TheVariants as stop

@@ -3,8 +3,8 @@ use Rattle.std.proofs.Common.{◌≡◌, ℕ, ◌≤◌, ◌+◌, List, [], Opti
 use Rattle.std.specs.Prelude.{unwrap_or, OnErr}
 use Rattle.mesh_grammar.specs.Written.{line}
 use Rattle.mesh_link.specs.Datagrams.{Datagram}
-use Rattle.mesh_peers.specs.Peers.{PeersSeen, with_self, with_peer}
-use Rattle.mesh_peers.specs.Lines.{AcceptedLine, Nothing, Own, Peer, Up, Down, Give, Polls, Turns, Sends, Asks, Shows, words_of}
+use Rattle.mesh_script.specs.Peers.{PeersSeen, with_self, with_peer}
+use Rattle.mesh_script.specs.NodeLines.{AcceptedLine, Nothing, Own, Peer, Up, Down, Give, Polls, Turns, Sends, Asks, Shows, words_of}
 use Rattle.mesh_router.specs.declared.stop.Stop.{Stop}
 use Rattle.mesh_router.specs.declared.stop.Stop.TheVariants as stop
 use Rattle.mesh_router.specs.Logs.{nothing, text_log, followed_by}
@@ -15,7 +15,7 @@ use Rattle.mesh_router.specs.Polls.{polls_of}
 use Rattle.mesh_router.specs.Lines.{LineOutcome, On, words_at, refused_words, join_outcome, act_outcome, polled_line, step_of, outcome_of_line}
 use Rattle.mesh_router.specs.Outputs.{Outputs, Adds, AddsPrefix}
 use Rattle.mesh_router.specs.Runs.{log_in, log_of, IsCommand, IsStepRun, IsPollLineDone, IsPollLineInPart, IsNotFull, IsLineInPart, IsLineRun}
-use Rattle.mesh_peers.specs.Peers.{no_peers}
+use Rattle.mesh_script.specs.Peers.{no_peers}
 use Rattle.mesh_router.specs.Seen.{IsGrown, HasCounts}
 use Rattle.mesh_router.specs.Joins.{found-none}
 use Rattle.mesh_router.proofs.Logging.{prefix-none}

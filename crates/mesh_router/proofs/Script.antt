@@ -2,7 +2,7 @@
 use Rattle.std.proofs.Common.{◌≡◌, ℕ, ◌+◌, Bool, List, [], ◌∷◌, ◌++◌, Option, Some, None, Result, refl, sym, ap, subst, ◌∙◌}
 use Rattle.std.specs.Prelude.{IfSome, ⊤}
 use Rattle.mesh_base.specs.declared.limits.TheConstants.{LONGEST_LINE}
-use Rattle.mesh_base.specs.declared.events.Counter.{Counter}
+use Rattle.mesh_base.specs.declared.events.Full.{Full as Counter}
 use Rattle.mesh_io.specs.NextLines.{schedule_limits}
 use Rattle.mesh_io.specs.declared.limits.Limits.{Limits}
 use Rattle.mesh_io.specs.declared.sink.Sink as sinks
@@ -19,8 +19,8 @@ use Rattle.mesh_shell.specs.declared.limit.Limit.TheVariants as limit
 use Rattle.mesh_shell.specs.declared.reader.LineReader as readers
 use Rattle.mesh_shell.specs.declared.runner.Runner as runners
 use Rattle.mesh_grammar.specs.Faults.{bad_line}
-use Rattle.mesh_peers.specs.Peers.{PeersSeen}
-use Rattle.mesh_peers.specs.Lines.{AcceptedLine, line_of}
+use Rattle.mesh_script.specs.Peers.{PeersSeen}
+use Rattle.mesh_script.specs.NodeLines.{AcceptedLine, line_of}
 use Rattle.mesh_router.specs.declared.status.NodeStatus.{NodeStatus}
 use Rattle.mesh_router.specs.declared.status.NodeStatus.TheVariants as status
 use Rattle.mesh_router.specs.Logs.{Log, nothing, text_log}

@@ -5,7 +5,7 @@ use Rattle.std.specs.List.{AllByRecursion}
 use Rattle.mesh_base.specs.Members.{NodeIds}
 use Rattle.mesh_base.specs.Meshes.{Nodes, IsMesh}
 use Rattle.mesh_base.specs.declared.addr.Addr.{Addr}
-use Rattle.mesh_base.specs.declared.events.Counter.{Counter}
+use Rattle.mesh_base.specs.declared.events.Full.{Full as Counter}
 use Rattle.mesh_base.specs.declared.events.Effect as effects
 use Rattle.mesh_base.specs.declared.events.Item as items
 use Rattle.mesh_base.specs.declared.events.Item.TheVariants as item
@@ -28,7 +28,7 @@ use Rattle.mesh_meaning.specs.Packets.{packet_of}
 use Rattle.mesh_meaning.specs.Answers.{cast_in, effect_in, took_in, IsCastWritten, IsPacketInMesh}
 use Rattle.mesh_text.specs.Effects.{took_text, datum_fate, broken_text, cast_text}
 use Rattle.mesh_report.specs.Legible.{IsTookLegible}
-use Rattle.mesh_peers.specs.Peers.{PeersSeen}
+use Rattle.mesh_script.specs.Peers.{PeersSeen}
 use Rattle.mesh_router.specs.declared.stop.Stop.{Stop}
 use Rattle.mesh_router.specs.declared.stop.Stop.TheVariants as stop
 use Rattle.mesh_router.specs.Logs.{Log, nothing, text_log, followed_by}

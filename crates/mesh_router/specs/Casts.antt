@@ -10,7 +10,7 @@ use Rattle.mesh_grammar.specs.Written.{line}
 use Rattle.mesh_text.specs.Lines.{name_of}
 use Rattle.mesh_text.specs.Effects.{broken_text, cast_text}
 use Rattle.mesh_link.specs.Datagrams.{datagram}
-use Rattle.mesh_peers.specs.Peers.{PeersSeen}
+use Rattle.mesh_script.specs.Peers.{PeersSeen}
 use Rattle.mesh_router.specs.Logs.{Log, Sent, nothing, text_log, followed_by}
 use Rattle.mesh_router.specs.Routers.{Router}
 

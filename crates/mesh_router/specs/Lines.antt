@@ -3,7 +3,7 @@ use Rattle.std.specs.Prelude.{ℕ, not, Bool, List, [], ◌∷◌, ◌++◌, len
 use Rattle.std.specs.FinSet as sets
 use Rattle.mesh_base.specs.Meshes.{Nodes}
 use Rattle.mesh_base.specs.Members.{NodeIds}
-use Rattle.mesh_base.specs.declared.events.Counter.{Counter}
+use Rattle.mesh_base.specs.declared.events.Full.{Full as Counter}
 use Rattle.mesh_base.specs.declared.events.Item.TheVariants.{New}
 use Rattle.aodv_model.specs.Handlers.{may_send, send, may_ask, ask}
 use Rattle.aodv_model.specs.Fullness.{send_full, ask_full}
@@ -15,8 +15,8 @@ use Rattle.mesh_shell.specs.declared.limit.Limit.{Limit}
 use Rattle.mesh_shell.specs.declared.limit.Limit.TheVariants.{Line, Input}
 use Rattle.mesh_grammar.specs.Written.{line}
 use Rattle.mesh_text.specs.Tables.{node_text}
-use Rattle.mesh_peers.specs.Peers.{with_self, with_peer}
-use Rattle.mesh_peers.specs.Lines.{AcceptedLine, Nothing, Own, Peer, Up, Down, Give, Polls, Turns, Sends, Asks, Shows, line_of, words_of}
+use Rattle.mesh_script.specs.Peers.{with_self, with_peer}
+use Rattle.mesh_script.specs.NodeLines.{AcceptedLine, Nothing, Own, Peer, Up, Down, Give, Polls, Turns, Sends, Asks, Shows, line_of, words_of}
 use Rattle.mesh_router.specs.Logs.{Log, nothing, text_log, followed_by}
 use Rattle.mesh_router.specs.Routers.{Router, Stage, Joining, Running, peers_in, router_in, is_running, RunState, counted_at}
 use Rattle.mesh_router.specs.Turns.{StepOutcome, StepDone, StepFull, log_before, turns_of, act_of, idle_line}

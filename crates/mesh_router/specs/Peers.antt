@@ -9,8 +9,8 @@ use Rattle.mesh_base.specs.declared.events.Took.{Took}
 use Rattle.mesh_meaning.specs.Answers.{cast_in, effect_in, took_in}
 use Rattle.mesh_model.specs.Worlds.{members_below, receivers}
 use Rattle.mesh_grammar.specs.Written.{line}
-use Rattle.mesh_peers.specs.Lines.{AcceptedLine, words_of}
-use Rattle.mesh_peers.specs.Peers.{PeersSeen}
+use Rattle.mesh_script.specs.NodeLines.{AcceptedLine, words_of}
+use Rattle.mesh_script.specs.Peers.{PeersSeen}
 use Rattle.mesh_text.specs.Effects.{took_text, datum_fate, broken_text, cast_text}
 use Rattle.mesh_router.specs.Logs.{Log, text_log, followed_by}
 use Rattle.mesh_router.specs.Casts.{sent_to_each}

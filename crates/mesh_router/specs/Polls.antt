@@ -6,7 +6,7 @@ use Rattle.mesh_base.specs.declared.events.Item.TheVariants.{Heard}
 use Rattle.mesh_grammar.specs.Written.{line, label_number}
 use Rattle.mesh_text.specs.Lines.{name_of}
 use Rattle.mesh_link.specs.Datagrams.{Datagram}
-use Rattle.mesh_peers.specs.Peers.{at_port}
+use Rattle.mesh_script.specs.Peers.{at_port}
 use Rattle.mesh_router.specs.declared.limits.TheConstants.{MOST_RECEIVED}
 use Rattle.mesh_router.specs.Logs.{Log, nothing, text_log, followed_by}
 use Rattle.mesh_router.specs.Routers.{Router}

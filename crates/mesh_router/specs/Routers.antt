@@ -6,7 +6,7 @@ use Rattle.mesh_base.specs.Meshes.{first_at}
 use Rattle.mesh_base.specs.declared.events.Item.{Item}
 use Rattle.mesh_base.specs.declared.events.Variant.TheVariants.{Base}
 use Rattle.aodv_model.specs.Cores.{Core, opening}
-use Rattle.mesh_peers.specs.Peers.{PeersSeen, no_peers}
+use Rattle.mesh_script.specs.Peers.{PeersSeen, no_peers}
 
 -- the router's mesh, with itself and its peers; its core; its queue, with packets as bytes; the
 -- peers in range; and how many datagrams it has heard, sent and dropped

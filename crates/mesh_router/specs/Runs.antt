@@ -1,11 +1,11 @@
 -- What was reported of a turn, of a command, and of datagrams that were received.
 use Rattle.std.specs.Prelude.{◌≡◌, ℕ, suc, List, [], ◌∷◌, Bool, true, false, Option, Some, None, Result, Ok, Err, MatchResult, ⊤}
 use Rattle.std.specs.Io.KnownBytes.{Appends}
-use Rattle.mesh_base.specs.declared.events.Counter.{Counter}
+use Rattle.mesh_base.specs.declared.events.Full.{Full as Counter}
 use Rattle.mesh_io.specs.Puts.{AppendsPrefix}
 use Rattle.mesh_link.specs.Datagrams.{Datagram}
-use Rattle.mesh_peers.specs.Peers.{at_port}
-use Rattle.mesh_peers.specs.Lines.{AcceptedLine, Nothing, Own, Peer, Polls}
+use Rattle.mesh_script.specs.Peers.{at_port}
+use Rattle.mesh_script.specs.NodeLines.{AcceptedLine, Nothing, Own, Peer, Polls}
 use Rattle.mesh_router.specs.declared.stop.Stop.{Stop}
 use Rattle.mesh_router.specs.declared.stop.Stop.TheVariants as stop
 use Rattle.mesh_grammar.specs.Written.{line}

@@ -8,8 +8,8 @@ use Rattle.mesh_base.specs.declared.events.Item.{Item}
 use Rattle.aodv_model.specs.Cores.{Core}
 use Rattle.aodv_model.specs.Codes.{core_code}
 use Rattle.aodv_node.specs.Seen.{NodeSeen, item_code}
-use Rattle.mesh_peers.specs.declared.limits.TheConstants.{MOST_AT_ONCE}
-use Rattle.mesh_peers.specs.Peers.{PeersSeen, peers_code}
+use Rattle.mesh_script.specs.declared.limits.TheConstants.{MOST_AT_ONCE}
+use Rattle.mesh_script.specs.Peers.{PeersSeen, peers_code}
 use Rattle.mesh_router.specs.Routers.{Router}
 use Rattle.mesh_router.specs.Peers.{ArePeers}
 

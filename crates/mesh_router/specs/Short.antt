@@ -5,8 +5,8 @@ use Rattle.aodv_meaning.specs.Effects.{item_in}
 use Rattle.aodv_node.specs.Discovered.{IsAskShort}
 use Rattle.aodv_node.specs.Turned.{IsReadableItem, needs_memory}
 use Rattle.mesh_link.specs.Datagrams.{Datagram}
-use Rattle.mesh_peers.specs.Lines.{AcceptedLine, Give, Turns, Asks}
-use Rattle.mesh_peers.specs.Peers.{PeersSeen, at_port}
+use Rattle.mesh_script.specs.NodeLines.{AcceptedLine, Give, Turns, Asks}
+use Rattle.mesh_script.specs.Peers.{PeersSeen, at_port}
 use Rattle.mesh_router.specs.Routers.{Router}
 use Rattle.mesh_router.specs.Turns as turns
 use Rattle.mesh_router.specs.Turns.{TurnOutcome, next_turn}

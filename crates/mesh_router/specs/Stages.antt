@@ -2,7 +2,7 @@
 use Rattle.std.specs.Prelude.{◌≡◌, ◌⊎◌, ℕ, refl}
 use Rattle.std.proofs.Common.{inl, inr}
 use Rattle.std.specs.Coded.{Coded, code_by, coded×, coded⊎, coded_ℕ}
-use Rattle.mesh_peers.specs.Peers.{PeersSeen, peers_code}
+use Rattle.mesh_script.specs.Peers.{PeersSeen, peers_code}
 use Rattle.mesh_router.specs.declared.point.Stage as code
 use Rattle.mesh_router.specs.declared.point.Stage.TheVariants as stages
 use Rattle.mesh_router.specs.Routers.{Router, Stage, Joining, Running, RunState}

@@ -1,7 +1,7 @@
 -- What a router writes and sends for its script, and its verdict, from the bytes of the script and
 -- from what the calls that receive datagrams find.
 use Rattle.std.specs.Prelude.{ℕ, ◌+◌, List, [], ◌∷◌, ◌++◌, codes}
-use Rattle.mesh_base.specs.declared.events.Counter.{Counter}
+use Rattle.mesh_base.specs.declared.events.Full.{Full as Counter}
 use Rattle.mesh_grammar.specs.declared.fault.BadWhy.{BadWhy}
 use Rattle.mesh_grammar.specs.Faults.{bad_line}
 use Rattle.mesh_shell.specs.Pieces.{Piece}

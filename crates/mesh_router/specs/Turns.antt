@@ -3,7 +3,7 @@ use Rattle.std.specs.Prelude.{ℕ, zero, suc, ◌+◌, Bool, true, false, List, 
 use Rattle.mesh_base.specs.Meshes.{Nodes}
 use Rattle.mesh_base.specs.Addresses.{dotted_decimal}
 use Rattle.mesh_base.specs.declared.addr.Addr.{Addr}
-use Rattle.mesh_base.specs.declared.events.Counter.{Counter}
+use Rattle.mesh_base.specs.declared.events.Full.{Full as Counter}
 use Rattle.mesh_base.specs.declared.events.Item.{Item}
 use Rattle.mesh_base.specs.declared.events.Item.TheVariants.{New, Heard}
 use Rattle.aodv_wire.specs.declared.error.WireError.{WireError}

@@ -2,7 +2,7 @@
 ghost use Rattle.std.specs.Prelude.{◌≡◌, ◌<◌, ◌+◌, is_some, true, OnOk, OnErr, Option, List};
 ghost use Rattle.mesh_base.specs.Bounds.{most_lines};
 ghost use Rattle.mesh_link.specs.Datagrams.{Datagram};
-ghost use Rattle.mesh_peers.specs.Seen.{accepted_of, IsAllowed, IsPrintable};
+ghost use Rattle.mesh_script.specs.NodeSeen.{accepted_of, IsAllowed, IsPrintable};
 ghost use Rattle.mesh_router.specs.Routers.{peers_in, router_in, is_running, Running};
 ghost use Rattle.mesh_router.specs.Lines as lines;
 ghost use Rattle.mesh_router.specs.Lines.{outcome_of_line, refused_words, words_at, step_of};
@@ -16,7 +16,7 @@ use crate::stop::{Scratch, Stop};
 use mesh_base::{Addr, LineBuf};
 use mesh_io::Sink;
 use mesh_link::Link;
-use mesh_peers::NodeLine;
+use mesh_script::NodeLine;
 use std::alloc::Global;
 
 impl Point {

@@ -3,14 +3,14 @@ ghost use Rattle.std.specs.Prelude.{◌≡◌, ◌<◌, ◌≤◌, is_some, true
 ghost use Rattle.mesh_base.specs.Bounds.{most_lines};
 ghost use Rattle.mesh_base.specs.Meshes.{index_of};
 ghost use Rattle.mesh_base.specs.declared.limits.TheConstants.{MOST_NODES};
-ghost use Rattle.mesh_peers.specs.Peers.{with_self, with_peer, at_port};
+ghost use Rattle.mesh_script.specs.Peers.{with_self, with_peer, at_port};
 ghost use Rattle.mesh_router.specs.Routers as routers;
 ghost use Rattle.mesh_router.specs.Routers.{peers_in, router_in, is_running, counted_at};
 
 use crate::router::Router;
 use aodv_node::Node;
 use mesh_base::{Addr, NoMemory};
-use mesh_peers::Peers;
+use mesh_script::Peers;
 use std::alloc::Global;
 use std::marker::Model;
 use std::mem;

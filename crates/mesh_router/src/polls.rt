@@ -5,7 +5,7 @@ ghost use Rattle.mesh_io.specs.Puts.{Puts};
 ghost use Rattle.mesh_router.specs.Polls.{heard_line, strange_port_line};
 ghost use Rattle.mesh_router.specs.Outputs.{HasCauses, HasSinkCause};
 ghost use Rattle.mesh_router.specs.Seen.{HasCounts, IsGrown, most_counted, most_counted_before_line};
-ghost use Rattle.mesh_peers.specs.Peers.{at_port};
+ghost use Rattle.mesh_script.specs.Peers.{at_port};
 ghost use Rattle.mesh_router.specs.Runs.{IsNotFull, IsTaken, IsPollStep, IsPollRun};
 ghost use Rattle.mesh_router.specs.Short.{IsPollShort};
 
@@ -38,7 +38,7 @@ fn put_heard<O: Sink>(
 
 #[tactic(auto, using(std::proofs::lemmas::List::append_assoc))]
 fn push_strange_port(out: &mut LineBuf, port: u16)
-    ensures { out.new ≡ strange_port_line port }
+    ensures { out.new.items ≡ strange_port_line port }
 {
     out.clear();
     push_text(out, b"  drop port ");

@@ -7,7 +7,7 @@ ghost use Rattle.mesh_router.specs.Routers as routers;
 
 use aodv_node::Node;
 use mesh_base::{Mesh, NodeSet};
-use mesh_peers::Peers;
+use mesh_script::Peers;
 use std::marker::Model;
 
 /// A running router. Its mesh is fixed.

@@ -20,7 +20,7 @@ use crate::stop::{Scratch, Stop};
 use mesh_grammar::BadWhy;
 use mesh_io::{Cutter, Limits, SCHEDULE_CAPACITY, Sink, Source};
 use mesh_link::Link;
-use mesh_peers::parse_node_line;
+use mesh_script::parse_node_line;
 use mesh_shell::{Limit, LineReader, Runner, run_lines};
 use std::alloc::Global;
 
@@ -59,7 +59,7 @@ fn one<O: Sink, L: Link>(
 {
     let number = at.lines() + 1;
     match parse_node_line(bytes, at.peers(), at.started()) {
-        Err(fault) => Err(refuse(at, BadWhy::Fault(fault), &mut scratch.line, out)),
+        Err(fault) => Err(refuse(at, BadWhy::Fault(fault), out)),
         Ok(line) => match do_line(alloc, at, &line, scratch, out, link) {
             Ok(()) => Ok(()),
             Err(Stop::Full(field)) => {
@@ -134,7 +134,7 @@ impl<O: Sink, L: Link> Runner for Routing<'_, O, L> {
     }
 
     fn past(&mut self, limit: Limit) -> NodeStatus {
-        refuse(self.at, why_past(limit), &mut self.scratch.line, self.out)
+        refuse(self.at, why_past(limit), self.out)
     }
 
     fn end(&mut self) -> NodeStatus {

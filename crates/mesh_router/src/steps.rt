@@ -7,8 +7,8 @@ ghost use Rattle.aodv_node.specs.Discovered.{IsAskShort};
 ghost use Rattle.mesh_grammar.specs.Written.{line as ended};
 ghost use Rattle.mesh_io.specs.Cause.{HasCause};
 ghost use Rattle.mesh_io.specs.Puts.{Puts};
-ghost use Rattle.mesh_peers.specs.Lines.{words_of};
-ghost use Rattle.mesh_peers.specs.Seen.{accepted_of, IsPrintable};
+ghost use Rattle.mesh_script.specs.NodeLines.{words_of};
+ghost use Rattle.mesh_script.specs.NodeSeen.{accepted_of, IsPrintable};
 ghost use Rattle.mesh_router.specs.Turns.{act_of, idle_line, log_before, turns_of};
 ghost use Rattle.mesh_router.specs.Lines.{range_outcome, give_outcome, show_outcome, step_of};
 ghost use Rattle.mesh_link.specs.Datagrams.{Datagram};
@@ -28,7 +28,7 @@ use aodv_node::{AskError, SendError};
 use mesh_base::{Bytes, Effect, LineBuf, MOST_NODES, NodeSet, push_text};
 use mesh_io::{PutFault, Sink, put_all};
 use mesh_link::Link;
-use mesh_peers::{NodeLine, Peers, print_node_line};
+use mesh_script::{NodeLine, Peers, print_node_line};
 use mesh_show::put_node;
 use std::alloc::Global;
 
@@ -299,7 +299,7 @@ impl Router {
         ensures cause { HasSinkCause (O.faults out.old) (O.faults out.new) result }
     {
         put_line(line, &self.peers, buf, out)?;
-        put_node(self.peers.mesh(), &self.node, buf, out)?;
+        put_node(self.peers.mesh(), &self.node, out)?;
         Ok(())
     }
 

@@ -3,14 +3,14 @@ ghost use Rattle.std.specs.Prelude.{◌≡◌};
 ghost use Rattle.mesh_router.specs.declared.stop.Stop.TheVariants as stops;
 
 use crate::limits::MOST_RECEIVED;
-use mesh_base::{Counter, LineBuf, NoMemory, Packet};
+use mesh_base::{Full, LineBuf, NoMemory, Packet};
 use mesh_io::{Failed, PutFault};
 
 /// Why a command wasn't done, or wasn't reported in full.
 #[derive(Clone, Copy)]
 pub enum Stop {
     /// The command would raise this counter past its field's greatest value.
-    Full(Counter),
+    Full(Full),
     /// A write failed.
     WriteFault,
     /// The link failed.

@@ -28,9 +28,9 @@ const REFUSAL_WIDTH: usize = b"unknown type ".len() + NUMBER_WIDTH;
 // Appends why bytes encode no message.
 #[tactic(auto, using(std::proofs::lemmas::List::append_assoc))]
 fn push_refusal(out: &mut LineBuf, why: WireError)
-    requires { length out.old + REFUSAL_WIDTH ≤ LINE_CAPACITY }
-    ensures text { out.new ≡ out.old ++ refusal_words why }
-    ensures length { length out.new ≤ length out.old + REFUSAL_WIDTH }
+    requires { length out.old.items + REFUSAL_WIDTH ≤ LINE_CAPACITY }
+    ensures text { out.new.items ≡ out.old.items ++ refusal_words why }
+    ensures length { length out.new.items ≤ length out.old.items + REFUSAL_WIDTH }
 {
     match why {
         WireError::Short => push_text(out, b"short"),
@@ -53,7 +53,7 @@ fn push_refusal(out: &mut LineBuf, why: WireError)
 #[tactic(auto, using(std::proofs::lemmas::List::append_assoc))]
 fn push_malformed(out: &mut LineBuf, mesh: &Mesh, from: usize, why: WireError)
     requires { from < length mesh.now }
-    ensures { out.new ≡ drop_line mesh.now from (refusal_words why) }
+    ensures { out.new.items ≡ drop_line mesh.now from (refusal_words why) }
 {
     out.clear();
     push_node(out, b"  drop ", mesh, from);
@@ -81,7 +81,7 @@ fn put_malformed<O: Sink>(
 #[tactic(auto, using(std::proofs::lemmas::List::append_assoc))]
 fn push_stranger(out: &mut LineBuf, mesh: &Mesh, from: usize, who: Addr)
     requires { from < length mesh.now }
-    ensures { out.new ≡ drop_line mesh.now from (stranger_words who) }
+    ensures { out.new.items ≡ drop_line mesh.now from (stranger_words who) }
 {
     out.clear();
     push_node(out, b"  drop ", mesh, from);
@@ -147,7 +147,7 @@ impl Router {
                 put_all(out, b"  idle\n")?;
                 Ok(false)
             }
-            Err(TurnError::Malformed { from, why }) => {
+            Err(TurnError::Refused { from, why }) => {
                 self.dropped += 1;
                 put_malformed(self.peers.mesh(), from, why, &mut scratch.line, out)?;
                 Ok(true)

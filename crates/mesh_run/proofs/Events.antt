@@ -1,7 +1,7 @@
 -- What comes of an event, of a line with one event, and of events that were chosen after a line.
 use Rattle.std.proofs.Common.{◌≡◌, ℕ, ◌+◌, Bool, true, is_some, List, [], ◌++◌, Option, length, refl, sym, ap, subst, ◌∙◌}
 use Rattle.std.specs.Io.KnownBytes.{Appends}
-use Rattle.mesh_base.specs.declared.events.Counter.{Counter as Field}
+use Rattle.mesh_base.specs.declared.events.Full.{Full as Field}
 use Rattle.mesh_base.specs.declared.events.Done.{Done}
 use Rattle.mesh_base.specs.declared.events.Done.TheVariants as done
 use Rattle.mesh_base.specs.declared.events.Event.{Event as EventGiven}

@@ -1,7 +1,7 @@
 -- A step that is refused for a full counter is refused for one of the event's own node.
 use Rattle.std.proofs.Common.{◌≡◌, ℕ, List, [], ◌∷◌, Option, Some, None}
 use Rattle.std.specs.Prelude.{slice_get}
-use Rattle.mesh_base.specs.declared.events.Counter.{Counter}
+use Rattle.mesh_base.specs.declared.events.Full.{Full as Counter}
 use Rattle.aodv_model.proofs.Entries.{if_case}
 use Rattle.aodv_model.specs.Cores.{Core, Item, Heard, New}
 use Rattle.aodv_model.specs.Fullness.{turn_full, send_full, ask_full}

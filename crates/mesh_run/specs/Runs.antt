@@ -2,7 +2,7 @@
 -- is written only if `say` is true.
 use Rattle.std.specs.Prelude.{ℕ, zero, suc, ◌≡◌, ◌≤◌, ◌⊎◌, List, [], ◌∷◌, take, Bool, if◌then◌else◌, Option, Some, None, Result, Ok, Err, MatchResult, IsSomeAnd, length}
 use Rattle.std.specs.Io.KnownBytes.{Appends, Keeps}
-use Rattle.mesh_base.specs.declared.events.Counter as full
+use Rattle.mesh_base.specs.declared.events.Full as full
 use Rattle.mesh_io.specs.Puts.{AppendsPrefix}
 use Rattle.mesh_model.specs.Worlds as worlds
 use Rattle.mesh_model.specs.Worlds.{Event, Outcome, Idle, Next}
@@ -57,7 +57,7 @@ pub record IsStill (m n : RunState) (e : Event) : Type 0 where
 -- after a text, an event was refused in state n because this counter of this node is full
 pub record IsLineFull
     (say : Bool) (m : RunState) (k : LineOutcome) (n : RunState) (before now : Option (List ℕ))
-    (e : Event) (node : ℕ) (field : full.Counter) : Type 0 where
+    (e : Event) (node : ℕ) (field : full.Full) : Type 0 where
   pub text : List ℕ
   pub is : k ≡ Full text n e field
   pub refused : outcome_at n e ≡ worlds.Full node field
@@ -124,7 +124,7 @@ pub record IsEventsDone
 -- this node is full
 pub record IsEventsFull
     (say : Bool) (m : RunState) (ran : EventsOutcome) (n : RunState) (before now : Option (List ℕ))
-    (e : Event) (node : ℕ) (field : full.Counter) : Type 0 where
+    (e : Event) (node : ℕ) (field : full.Full) : Type 0 where
   pub text : List ℕ
   pub is : ran ≡ EventsFull text n e field
   pub refused : outcome_at n e ≡ worlds.Full node field

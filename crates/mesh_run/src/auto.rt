@@ -16,7 +16,7 @@ use crate::choice::next_event;
 use crate::commands::do_event;
 use crate::point::Point;
 use crate::stop::Stop;
-use mesh_base::{Event, LONGEST_LINE, LineBuf};
+use mesh_base::{Event, LONGEST_LINE};
 use mesh_io::{PutFault, Sink};
 use mesh_report::{put_auto_end, put_echo};
 use mesh_script::Line;
@@ -151,12 +151,7 @@ pub fn do_events<'a, S: Steps, O: Sink>(
 }
 
 // Writes a line as it was read, if `say`.
-fn say_echo<O: Sink>(
-    bytes: &[u8],
-    say: bool,
-    buf: &mut LineBuf,
-    out: &mut O,
-) -> Result<(), PutFault>
+fn say_echo<O: Sink>(bytes: &[u8], say: bool, out: &mut O) -> Result<(), PutFault>
     requires { say ≡ true → length bytes.now ≤ LONGEST_LINE }
     ensures text { Puts (O.held out.old) (O.held out.new)
         (output_if say (line_of_words bytes.now)) result }
@@ -165,7 +160,7 @@ fn say_echo<O: Sink>(
     if !say {
         return Ok(());
     }
-    put_echo(bytes, buf, out)
+    put_echo(bytes, out)
 }
 
 /// Does at most `count` events that the run chooses. If `say`, it writes the line as it was read,
@@ -188,7 +183,7 @@ pub fn do_auto<S: Steps, O: Sink>(
     ensures way { OnErr result (IsReached at.old (events_chosen count at.old) at.new) }
     ensures cause { HasStopCause (O.faults out.old) (O.faults out.new) result }
 {
-    say_echo(bytes, say, &mut at.line, out)?;
+    say_echo(bytes, say, out)?;
     let mut task = Task {
         at: &mut *at,
         given: None,
@@ -210,6 +205,6 @@ pub fn do_auto<S: Steps, O: Sink>(
     if !say {
         return Ok(());
     }
-    put_auto_end(did, &mut at.line, out)?;
+    put_auto_end(did, out)?;
     Ok(())
 }

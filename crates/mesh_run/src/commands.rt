@@ -23,7 +23,7 @@ use crate::auto::{Task, do_auto, do_events};
 use crate::point::Point;
 use crate::show::{Shown, do_show};
 use crate::stop::{EventStop, Stop};
-use mesh_base::{Addr, Done, Event, LONGEST_LINE, LineBuf, Mesh, Packet};
+use mesh_base::{Addr, Done, Event, LONGEST_LINE, Mesh, Packet};
 use mesh_io::{PutFault, Sink};
 use mesh_report::{put_echoed_event, put_event, put_line};
 use mesh_script::Line;
@@ -39,7 +39,6 @@ pub fn say_event<O: Sink>(
     event: &Event<'_>,
     done: &Done,
     packet: &Packet,
-    buf: &mut LineBuf,
     out: &mut O,
 ) -> Result<(), PutFault>
     requires printable { IsPrintable mesh.now (Line.Step event.now) }
@@ -51,8 +50,8 @@ pub fn say_event<O: Sink>(
     ensures cause { HasCause (O.faults out.old) (O.faults out.new) result }
 {
     match bytes {
-        Some(bytes) => put_echoed_event(bytes, mesh, event, done, packet, buf, out),
-        None => put_event(mesh, event, done, packet, buf, out),
+        Some(bytes) => put_echoed_event(bytes, mesh, event, done, packet, out),
+        None => put_event(mesh, event, done, packet, out),
     }
 }
 
@@ -87,7 +86,7 @@ pub fn do_event<S: Steps, O: Sink>(
         return Ok(());
     }
     let mesh = at.state.mesh();
-    match say_event(mesh, bytes, event, &at.done, &at.packet, &mut at.line, out) {
+    match say_event(mesh, bytes, event, &at.done, &at.packet, out) {
         Ok(()) => Ok(()),
         Err(_) => Err(EventStop::WriteFault),
     }
@@ -105,13 +104,7 @@ fn event_stop_of(error: StepError) -> EventStop
 }
 
 // Writes a line back, if `say`.
-fn say_line<O: Sink>(
-    mesh: &Mesh,
-    line: &Line<'_>,
-    say: bool,
-    buf: &mut LineBuf,
-    out: &mut O,
-) -> Result<(), PutFault>
+fn say_line<O: Sink>(mesh: &Mesh, line: &Line<'_>, say: bool, out: &mut O) -> Result<(), PutFault>
     requires printable { IsPrintable mesh.now line.now }
     requires some { line.now ≢ Line.Blank }
     ensures text { Puts (O.held out.old) (O.held out.new)
@@ -121,7 +114,7 @@ fn say_line<O: Sink>(
     if !say {
         return Ok(());
     }
-    put_line(mesh, line, buf, out)
+    put_line(mesh, line, out)
 }
 
 // Adds a node, and writes its line if `say`.
@@ -140,7 +133,7 @@ fn do_node<S: Steps, O: Sink>(
     ensures cause { HasStopCause (O.faults out.old) (O.faults out.new) result }
 {
     let line = Line::Node { addr, first };
-    say_line(at.state.mesh(), &line, say, &mut at.line, out)?;
+    say_line(at.state.mesh(), &line, say, out)?;
     at.state.add_node(addr, first);
     Ok(())
 }

@@ -15,7 +15,7 @@ ghost use Rattle.mesh_run.specs.Running.{last_said};
 use crate::point::Point;
 use crate::say::Say;
 use crate::stop::Stop;
-use mesh_base::{Counter, Event};
+use mesh_base::{Event, Full};
 use mesh_grammar::BadWhy;
 use mesh_io::{PutFault, Sink};
 use mesh_report::{put_bad, put_full, put_summary};
@@ -48,7 +48,7 @@ pub fn refuse<S: Steps, O: Sink>(
     ensures cause { HasCause (O.faults out.old) (O.faults out.new) result }
 {
     let line = at.state.lines() + 1;
-    put_bad(line, &why, &mut at.line, out)?;
+    put_bad(line, &why, out)?;
     Ok(Verdict::RefusedAt(line))
 }
 
@@ -58,7 +58,7 @@ pub fn refuse<S: Steps, O: Sink>(
 fn fill<S: Steps, O: Sink>(
     at: &mut Point<S>,
     event: Event<'_>,
-    field: Counter,
+    field: Full,
     out: &mut O,
 ) -> Result<Verdict, PutFault>
     requires lines { at.old.lines < most_lines }
@@ -70,7 +70,7 @@ fn fill<S: Steps, O: Sink>(
     ensures cause { HasCause (O.faults out.old) (O.faults out.new) result }
 {
     let line = at.state.lines() + 1;
-    put_full(at.state.mesh(), line, &event, &field, &mut at.line, out)?;
+    put_full(at.state.mesh(), line, &event, &field, out)?;
     Ok(Verdict::FullAt(line))
 }
 
@@ -113,7 +113,7 @@ pub fn finish<S: Steps, O: Sink>(
 {
     let summary = at.state.summary();
     if say != Say::Faults {
-        put_summary(&summary, &mut at.line, out)?;
+        put_summary(&summary, out)?;
     }
     Ok(Verdict::Finished)
 }

@@ -12,7 +12,7 @@ ghost use Rattle.mesh_run.specs.RunStates.{run_state_seen, AreTotals, IsWorldOf}
 use crate::point::Point;
 use crate::state::State;
 use arrayvec::ArrayVec;
-use mesh_base::{Done, LineBuf, Mesh, Variant};
+use mesh_base::{Done, Mesh, Variant};
 use mesh_report::Sums;
 use mesh_world::{Totals, World};
 
@@ -65,7 +65,6 @@ impl Point<World> {
         }
         Some(Point {
             state: State::of_parts(variant, mesh, world, sums, lines),
-            line: LineBuf::new(),
             packet: ArrayVec::new(),
             done: Done::Idle,
         })

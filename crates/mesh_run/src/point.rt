@@ -10,7 +10,7 @@ ghost use Rattle.mesh_run.specs.RunStates.{AreOfVariant, IsAnswer, IsRefusal, Is
 
 use crate::state::State;
 use arrayvec::ArrayVec;
-use mesh_base::{Done, Event, LineBuf, Mesh, NoMemory, Packet, Variant};
+use mesh_base::{Done, Event, Mesh, NoMemory, Packet, Variant};
 use mesh_report::Sums;
 use mesh_world::{StepError, Steps};
 use std::alloc::Global;
@@ -19,13 +19,11 @@ use std::marker::Model;
 /// A state of a run. A contract sees its variant of the protocol, its mesh, its world or none, its
 /// sums, its number of lines, and its number of steps, which is 0 if there is no world.
 ///
-/// It owns the line that is written, the packet that is cast and the answer that is reported, one
-/// of each for a whole run. They are public, since a run borrows them and the state at the same
-/// time; no contract sees them.
+/// It owns the packet that is cast and the answer that is reported, one of each for a whole run.
+/// They are public, since a run borrows them and the state at the same time; no contract sees them.
 #[derive(Drop)]
 pub struct Point<S: Steps> {
     pub state: State<S>,
-    pub line: LineBuf,
     pub packet: Packet,
     pub done: Done,
 }
@@ -57,7 +55,6 @@ impl<S: Steps> Point<S> {
     {
         Point {
             state: State::with(variant),
-            line: LineBuf::new(),
             packet: ArrayVec::new(),
             done: Done::Idle,
         }

@@ -17,10 +17,10 @@ ghost use Rattle.mesh_world.specs.Ends.{end_in, IsEndIn};
 
 use crate::point::Point;
 use crate::stop::Stop;
-use mesh_base::{LineBuf, Mesh};
+use mesh_base::Mesh;
 use mesh_io::{PutFault, Sink};
 use mesh_radio::Radio;
-use mesh_report::{put_echo, put_flying, put_number, put_stuck};
+use mesh_report::{put_echo, put_flying_view, put_number, put_stuck};
 use mesh_show::put_node;
 use mesh_world::{End, Steps};
 
@@ -52,19 +52,19 @@ fn show_node<S: Steps, O: Sink>(
         unreachable!();
     };
     let world = state.world();
-    put_echo(bytes, &mut at.line, out)?;
-    put_node(world.mesh(), world.node(node), &mut at.line, out)
+    put_echo(bytes, out)?;
+    put_node(world.mesh(), world.node(node), out)
 }
 
 // Writes the end of a route.
-fn put_end<O: Sink>(mesh: &Mesh, end: End, buf: &mut LineBuf, out: &mut O) -> Result<(), PutFault>
+fn put_end<O: Sink>(mesh: &Mesh, end: End, out: &mut O) -> Result<(), PutFault>
     requires { IsEndIn (length mesh.now) end }
     ensures text { Puts (O.held out.old) (O.held out.new) (end_text mesh.now (end_in end)) result }
     ensures cause { HasCause (O.faults out.old) (O.faults out.new) result }
 {
     match end {
-        End::Arrived { hops } => put_number(b"arrived", hops as u64, buf, out),
-        End::Stuck { at, hops } => put_stuck(mesh, at, hops, buf, out),
+        End::Arrived { hops } => put_number("arrived", hops as u64, out),
+        End::Stuck { at, hops } => put_stuck(mesh, at, hops, out),
     }
 }
 
@@ -90,17 +90,12 @@ fn show_route<S: Steps, O: Sink>(
         unreachable!();
     };
     let world = state.world();
-    put_echo(bytes, &mut at.line, out)?;
-    put_end(world.mesh(), world.follow(node, dest), &mut at.line, out)
+    put_echo(bytes, out)?;
+    put_end(world.mesh(), world.follow(node, dest), out)
 }
 
 // Writes the copies in flight, by ascending id.
-fn put_copies<O: Sink>(
-    mesh: &Mesh,
-    radio: &Radio,
-    buf: &mut LineBuf,
-    out: &mut O,
-) -> Result<(), PutFault>
+fn put_copies<O: Sink>(mesh: &Mesh, radio: &Radio, out: &mut O) -> Result<(), PutFault>
     requires size { radio.now.size ≡ length mesh.now }
     requires written { AllByRecursion (IsWrittenCopy mesh.now) radio.now.flying }
     ensures text { Puts (O.held out.old) (O.held out.new)
@@ -110,7 +105,7 @@ fn put_copies<O: Sink>(
     let mut start = 0;
     let mut hint = 0;
     while let Some(flying) = radio.next_from(start, &mut hint) {
-        put_flying(mesh, &flying, buf, out)?;
+        put_flying_view(mesh, &flying, out)?;
         start = flying.id + 1;
     }
     Ok(())
@@ -134,8 +129,8 @@ fn show_flight<S: Steps, O: Sink>(
         unreachable!();
     };
     let world = state.world();
-    put_echo(bytes, &mut at.line, out)?;
-    put_copies(world.mesh(), world.radio(), &mut at.line, out)
+    put_echo(bytes, out)?;
+    put_copies(world.mesh(), world.radio(), out)
 }
 
 // Writes a line that shows something, as it was read, and what it shows.

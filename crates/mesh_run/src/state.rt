@@ -36,7 +36,7 @@ pub struct State<S: Steps> {
 impl<S: Steps> Model for State<S> {
     ghost use Rattle.std.specs.Prelude.{option_map};
     ghost use Rattle.mesh_text.specs.Schedule.{RunState};
-    ghost use Rattle.mesh_report.specs.Sums.{sums_of};
+    ghost use Rattle.mesh_report.specs.Sums.{sums_of, sums_in};
     ghost use Rattle.mesh_run.specs.RunStates.{run_state_code, run_state_seen, IsSound};
 
     ghost Value = { RunState };
@@ -52,7 +52,7 @@ impl<S: Steps> Model for State<S> {
 }
 
 impl<S: Steps> State<S> {
-    ghost use Rattle.mesh_report.specs.Sums.{sums_of};
+    ghost use Rattle.mesh_report.specs.Sums.{sums_of, sums_in};
 
     /// The state before the first line, where all nodes run this variant of the protocol.
     pub fn with(variant: Variant) -> State<S>
@@ -142,17 +142,23 @@ impl<S: Steps> State<S> {
     /// What is written at the end of the run.
     pub fn summary(&self) -> Summary
         ensures safe { IsSafe self.now }
-        ensures sums { sums_of result.sums ≡ self.now.sums }
+        ensures sums { sums_in result ≡ self.now.sums }
         ensures waiting { result.waiting ≡ waiting any (model.world_of self.now) }
         ensures queued { result.queued ≡ queued_data any (model.world_of self.now) }
         ensures flying { result.flying ≡ in_flight any (model.world_of self.now) }
     {
         let totals = self.totals();
+        let sums = self.sums;
         Summary {
-            sums: self.sums,
+            events: sums.events,
+            idle: sums.idle,
+            given: sums.given,
+            delivered: sums.delivered,
             waiting: totals.waiting,
             queued: totals.queued,
             flying: totals.flying,
+            lost: sums.lost,
+            copied: sums.copied,
         }
     }
 

@@ -4,7 +4,7 @@ ghost use Rattle.mesh_meaning.specs.Events.{event_of, node_of};
 ghost use Rattle.mesh_run.specs.Stops.{stop_of};
 ghost use Rattle.mesh_run.specs.declared.stop.Stop.TheVariants as stops;
 
-use mesh_base::{Counter, Event, NoMemory};
+use mesh_base::{Event, Full, NoMemory};
 use mesh_grammar::LineFault;
 use mesh_io::PutFault;
 
@@ -17,7 +17,7 @@ pub enum Stop<'a> {
     Full {
         event: Event<'a>,
         node: usize,
-        field: Counter,
+        field: Full,
     },
     WriteFault,
     NoMemory,
@@ -27,7 +27,7 @@ pub enum Stop<'a> {
 #[derive(Clone, Copy)]
 pub enum EventStop {
     /// The event would raise this counter of its node past its field's greatest value.
-    Full { field: Counter },
+    Full { field: Full },
     WriteFault,
     NoMemory,
 }

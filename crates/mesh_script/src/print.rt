@@ -18,7 +18,7 @@ use crate::forms::Arguments;
 use crate::line::Line;
 use mesh_base::{
     ADDRESS_WIDTH, Addr, Event, LINE_CAPACITY, LONGEST_DATUM, LineBuf, Mesh, NUMBER_WIDTH,
-    push_number, push_text, write_dotted,
+    push_array, push_number, push_text, write_dotted,
 };
 
 /// The most bytes of an address as an argument, with the space before it.
@@ -34,18 +34,18 @@ pub const LONGEST_WRITTEN: usize = 4 + 2 * ADDRESS_ARGUMENT + 1 + LONGEST_DATUM;
 // These append a space and an argument.
 
 fn push_address(out: &mut LineBuf, a: Addr)
-    requires room { length out.old + ADDRESS_ARGUMENT ≤ LINE_CAPACITY }
-    ensures text { out.new ≡ out.old ++ 32 ∷ dotted_decimal a.0 }
-    ensures length { length out.new ≤ length out.old + ADDRESS_ARGUMENT }
+    requires room { length out.old.items + ADDRESS_ARGUMENT ≤ LINE_CAPACITY }
+    ensures text { out.new.items ≡ out.old.items ++ 32 ∷ dotted_decimal a.0 }
+    ensures length { length out.new.items ≤ length out.old.items + ADDRESS_ARGUMENT }
 {
     out.push(b' ');
     write_dotted(a, out);
 }
 
 fn push_argument(out: &mut LineBuf, n: u64)
-    requires room { length out.old + NUMBER_ARGUMENT ≤ LINE_CAPACITY }
-    ensures text { out.new ≡ out.old ++ 32 ∷ decimal n }
-    ensures length { length out.new ≤ length out.old + NUMBER_ARGUMENT }
+    requires room { length out.old.items + NUMBER_ARGUMENT ≤ LINE_CAPACITY }
+    ensures text { out.new.items ≡ out.old.items ++ 32 ∷ decimal n }
+    ensures length { length out.new.items ≤ length out.old.items + NUMBER_ARGUMENT }
 {
     out.push(b' ');
     push_number(out, n);
@@ -55,11 +55,12 @@ fn push_argument(out: &mut LineBuf, n: u64)
 #[inline(always)]
 #[tactic(auto, using(std::proofs::lemmas::List::append_assoc), unfolding(mesh_grammar::specs::Written::command_text))]
 pub fn push_written(out: &mut LineBuf, word: &[u8], arguments: &Arguments<'_, Addr>)
-    requires { length out.old + length word.now + width_of (addresses_of arguments.now)
+    requires { length out.old.items + length word.now + width_of (addresses_of arguments.now)
         ≤ LINE_CAPACITY }
-    ensures text { out.new ≡ out.old ++ command_text word.now (addresses_of arguments.now) }
-    ensures length { length out.new
-        ≤ length out.old + length word.now + width_of (addresses_of arguments.now) }
+    ensures text { out.new.items
+        ≡ out.old.items ++ command_text word.now (addresses_of arguments.now) }
+    ensures length { length out.new.items
+        ≤ length out.old.items + length word.now + width_of (addresses_of arguments.now) }
 {
     push_text(out, word);
     match arguments {
@@ -98,12 +99,13 @@ pub fn push_written(out: &mut LineBuf, word: &[u8], arguments: &Arguments<'_, Ad
 #[tactic(auto, using(std::proofs::lemmas::List::append_assoc), unfolding(mesh_grammar::specs::Written::command_text))]
 fn push_one<const N: usize>(out: &mut LineBuf, word: &[u8; N], mesh: &Mesh, i: usize)
     requires node { i < length mesh.now }
-    requires room { length out.old + length word.now + ADDRESS_ARGUMENT ≤ LINE_CAPACITY }
-    ensures text { out.new
-        ≡ out.old ++ command_text word.now (forms.OneAddress (addr_at mesh.now i)) }
-    ensures length { length out.new ≤ length out.old + length word.now + ADDRESS_ARGUMENT }
+    requires room { length out.old.items + length word.now + ADDRESS_ARGUMENT ≤ LINE_CAPACITY }
+    ensures text { out.new.items
+        ≡ out.old.items ++ command_text word.now (forms.OneAddress (addr_at mesh.now i)) }
+    ensures length { length out.new.items
+        ≤ length out.old.items + length word.now + ADDRESS_ARGUMENT }
 {
-    out.push_array(word);
+    push_array(out, word);
     out.push(b' ');
     mesh.push_name(i, out);
 }
@@ -114,10 +116,11 @@ fn push_one<const N: usize>(out: &mut LineBuf, word: &[u8; N], mesh: &Mesh, i: u
 fn push_two<const N: usize>(out: &mut LineBuf, word: &[u8; N], mesh: &Mesh, i: usize, j: usize)
     requires first { i < length mesh.now }
     requires second { j < length mesh.now }
-    requires room { length out.old + length word.now + 2 * ADDRESS_ARGUMENT ≤ LINE_CAPACITY }
-    ensures text { out.new ≡ out.old
+    requires room { length out.old.items + length word.now + 2 * ADDRESS_ARGUMENT ≤ LINE_CAPACITY }
+    ensures text { out.new.items ≡ out.old.items
         ++ command_text word.now (forms.TwoAddresses (addr_at mesh.now i) (addr_at mesh.now j)) }
-    ensures length { length out.new ≤ length out.old + length word.now + 2 * ADDRESS_ARGUMENT }
+    ensures length { length out.new.items
+        ≤ length out.old.items + length word.now + 2 * ADDRESS_ARGUMENT }
 {
     push_one(out, word, mesh, i);
     out.push(b' ');
@@ -128,11 +131,12 @@ fn push_two<const N: usize>(out: &mut LineBuf, word: &[u8; N], mesh: &Mesh, i: u
 #[inline(always)]
 #[tactic(auto, using(std::proofs::lemmas::List::append_assoc), unfolding(mesh_grammar::specs::Written::command_text))]
 fn push_numbered<const N: usize>(out: &mut LineBuf, word: &[u8; N], n: u64)
-    requires room { length out.old + length word.now + NUMBER_ARGUMENT ≤ LINE_CAPACITY }
-    ensures text { out.new ≡ out.old ++ command_text word.now (forms.OneNumber n) }
-    ensures length { length out.new ≤ length out.old + length word.now + NUMBER_ARGUMENT }
+    requires room { length out.old.items + length word.now + NUMBER_ARGUMENT ≤ LINE_CAPACITY }
+    ensures text { out.new.items ≡ out.old.items ++ command_text word.now (forms.OneNumber n) }
+    ensures length { length out.new.items
+        ≤ length out.old.items + length word.now + NUMBER_ARGUMENT }
 {
-    out.push_array(word);
+    push_array(out, word);
     push_argument(out, n);
 }
 
@@ -141,10 +145,10 @@ fn push_numbered<const N: usize>(out: &mut LineBuf, word: &[u8; N], n: u64)
 #[inline(always)]
 pub fn push_event(out: &mut LineBuf, mesh: &Mesh, event: &Event<'_>)
     requires event { IsEvent (length mesh.now) (event_of event.now) }
-    requires room { length out.old + LONGEST_WRITTEN ≤ LINE_CAPACITY }
-    ensures text { out.new
-        ≡ out.old ++ lines.event_words mesh.now (event_of event.now) }
-    ensures length { length out.new ≤ length out.old + LONGEST_WRITTEN }
+    requires room { length out.old.items + LONGEST_WRITTEN ≤ LINE_CAPACITY }
+    ensures text { out.new.items
+        ≡ out.old.items ++ lines.event_words mesh.now (event_of event.now) }
+    ensures length { length out.new.items ≤ length out.old.items + LONGEST_WRITTEN }
 {
     match *event {
         Event::Give { node, dest, body } => {
@@ -168,10 +172,10 @@ pub fn push_event(out: &mut LineBuf, mesh: &Mesh, event: &Event<'_>)
 #[inline(always)]
 pub fn push_line(out: &mut LineBuf, mesh: &Mesh, line: &Line<'_>)
     requires printable { IsPrintable mesh.now line.now }
-    requires room { length out.old + LONGEST_WRITTEN ≤ LINE_CAPACITY }
-    ensures text { out.new
-        ≡ out.old ++ lines.words_of mesh.now (accepted_of line.now) }
-    ensures length { length out.new ≤ length out.old + LONGEST_WRITTEN }
+    requires room { length out.old.items + LONGEST_WRITTEN ≤ LINE_CAPACITY }
+    ensures text { out.new.items
+        ≡ out.old.items ++ lines.words_of mesh.now (accepted_of line.now) }
+    ensures length { length out.new.items ≤ length out.old.items + LONGEST_WRITTEN }
 {
     match *line {
         Line::Blank => {}
@@ -193,10 +197,10 @@ pub fn push_line(out: &mut LineBuf, mesh: &Mesh, line: &Line<'_>)
 #[tactic(auto, using(crate::proofs::Allowed::reread))]
 pub fn print_line(line: &Line<'_>, mesh: &Mesh, out: &mut LineBuf)
     requires { IsPrintable mesh.now line.now }
-    ensures text { out.new ≡ lines.words_of mesh.now (accepted_of line.now) }
-    ensures short { length out.new ≤ LONGEST_WRITTEN }
+    ensures text { out.new.items ≡ lines.words_of mesh.now (accepted_of line.now) }
+    ensures short { length out.new.items ≤ LONGEST_WRITTEN }
     ensures reread { (started : Bool) → IsInTime started (accepted_of line.now)
-        → line_of mesh.now started out.new ≡ Ok (accepted_of line.now) }
+        → line_of mesh.now started out.new.items ≡ Ok (accepted_of line.now) }
 {
     // The mesh has distinct addresses, each of 32 bits.
     let _size = mesh.len();

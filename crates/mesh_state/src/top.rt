@@ -20,7 +20,7 @@ use crate::status::StateStatus;
 use crate::words::{Asked, asked_of};
 use mesh_io::{Sink, Source};
 use mesh_load::{StateError, a_run_is_unrefused, load, one_start};
-use mesh_run::{Point, Running, Say, State, Status, do_input};
+use mesh_run::{Point, Running, Say, Status, do_input};
 use mesh_save::SaveError;
 use mesh_world::World;
 use std::alloc::Global;
@@ -97,17 +97,10 @@ fn answer_by(why: StateError) -> StateStatus
     }
 }
 
-// Puts the run into this state, in place.
-fn come_to(at: &mut Point<World>, state: State<World>)
-    ensures { at.new ≡ state }
-{
-    at.state = state;
-}
-
-// Does the lines of an input from a state on. It isn't inlined: its frame, with a whole point,
-// would take stack while the state, which has a third of a point's size, is loaded.
+// Does the lines of an input from a state on. It isn't inlined: its frame would take stack while
+// the state is loaded.
 #[inline(never)]
-fn go_on<I: Source, O: Sink>(alloc: Global, at: State<World>, input: &mut I, out: &mut O) -> Status
+fn go_on<I: Source, O: Sink>(alloc: Global, at: Point<World>, input: &mut I, out: &mut O) -> Status
     requires lines { at.lines < most_lines_before_run }
     requires steps { at.steps < most_steps_before_run }
     ensures known { IfSome (I.left input.old) (λ bytes. IsOutputFrom All at bytes
@@ -119,10 +112,9 @@ fn go_on<I: Source, O: Sink>(alloc: Global, at: State<World>, input: &mut I, out
 {
     let mut running: Running<World> = Running {
         alloc,
-        at: Point::start(),
+        at,
         say: Say::All,
     };
-    come_to(&mut running.at, at);
     do_input(&mut running, input, out)
 }
 

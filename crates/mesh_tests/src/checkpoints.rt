@@ -2,7 +2,7 @@
 //! checks/cases/mesh_state.
 use mesh_checkpoint::validate;
 use mesh_load::{StateError, load};
-use mesh_run::State;
+use mesh_run::Point;
 use mesh_world::{Part, World};
 use std::alloc::Global;
 
@@ -40,7 +40,7 @@ fn validates_an_empty_checkpoint(rt: HostRuntime) {
 }
 
 // How many nodes a state has, and how many steps its world has done.
-fn sizes_of(at: &State<World>) -> (usize, Option<u64>) {
+fn sizes_of(at: &Point<World>) -> (usize, Option<u64>) {
     let steps = match at.world() {
         Some(world) => Some(world.steps()),
         None => None,

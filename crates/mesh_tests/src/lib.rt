@@ -36,6 +36,8 @@ mod packets;
 #[cfg(test)]
 mod peers;
 #[cfg(test)]
+mod points;
+#[cfg(test)]
 mod restore;
 #[cfg(test)]
 mod router_faults;

@@ -6,7 +6,7 @@ ghost use Rattle.std.specs.Prelude.{◌≡◌, length};
 
 use aodv_node::{Node, TurnError};
 use aodv_wire::WireError;
-use mesh_base::{Addr, Bytes, Counter, Mesh, NoMemory, NodeSet, Packet};
+use mesh_base::{Addr, Bytes, Full, Mesh, NoMemory, NodeSet, Packet};
 use std::alloc::Global;
 use std::test::Fail;
 
@@ -82,7 +82,7 @@ fn a_turn_is_refused(rt: HostRuntime) -> Result<(), Fail> {
     let rows: [(&[u8], TurnError, usize); 3] = [
         (
             &[],
-            TurnError::Malformed {
+            TurnError::Refused {
                 from: 1,
                 why: WireError::Short,
             },
@@ -96,7 +96,7 @@ fn a_turn_is_refused(rt: HostRuntime) -> Result<(), Fail> {
             },
             0,
         ),
-        (&reply, TurnError::Full(Counter::Hops), 1),
+        (&reply, TurnError::Full(Full::Hops), 1),
     ];
     for (bytes, why, left) in rows {
         assert!(rt; is_refused(rt.alloc(), &mesh, bytes, why, left)?, "{why}");

@@ -1,7 +1,7 @@
 //! Peers by their ports, lines that are refused, and lines that are written back.
 use mesh_base::{Addr, LineBuf};
 use mesh_grammar::Span;
-use mesh_peers::{LineFault, NodeLine, Peers, parse_node_line, print_node_line};
+use mesh_script::{LineFault, NodeLine, Peers, parse_node_line, print_node_line};
 
 // Does a line that names a node. False if the line doesn't.
 fn join(peers: &mut Peers, line: &[u8]) -> bool {

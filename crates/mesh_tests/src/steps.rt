@@ -8,8 +8,8 @@ use mesh_world::Steps;
 use std::alloc::Global;
 use std::test::Fail;
 
-// Whether this is an event of a mesh of this many nodes.
-fn is_event(e: &Event<'_>, nodes: usize) -> bool
+/// Whether this is an event of a mesh of this many nodes.
+pub(crate) fn is_event(e: &Event<'_>, nodes: usize) -> bool
     ensures { IsTrue result → IsEvent nodes (event_of e.now) }
 {
     match *e {

@@ -5,8 +5,8 @@ use Rattle.std.specs.Prelude.{ℕ, zero, suc, ◌/◌, ◌%◌, ◌+◌, List, [
 use Rattle.std.specs.List.{flat_map}
 use Rattle.mesh_base.specs.Addresses.{dotted_decimal}
 use Rattle.mesh_base.specs.Meshes.{Nodes, addr_at}
-use Rattle.mesh_base.specs.declared.events.Counter as full
-use Rattle.mesh_base.specs.declared.events.Counter.TheVariants as field
+use Rattle.mesh_base.specs.declared.events.Full as full
+use Rattle.mesh_base.specs.declared.events.Full.TheVariants as field
 use Rattle.mesh_model.specs.Worlds.{Event, Give, Turn, Send, Ask, Link, Cut, Deliver, Lose, Double}
 use Rattle.mesh_model.specs.Accounts.{any, waiting, queued_data, in_flight}
 use Rattle.mesh_grammar.specs.Forms.{Arguments, NoArgument, OneAddress, TwoAddresses, OneNumber, NumberedAddress, AddressesAndText}
@@ -107,13 +107,13 @@ done_line m =
 -- ---- a counter is full
 
 -- the counter that is full
-abbrev pub field_text : full.Counter → List ℕ
+abbrev pub field_text : full.Full → List ℕ
 field_text field.Hops = codes "hops"
 field_text field.Number = codes "number"
 field_text field.Id = codes "id"
 
 -- the last line of a run that an event of this line has ended, because a counter is full
-unfoldable pub full_line : Nodes → ℕ → Event → full.Counter → List ℕ
+unfoldable pub full_line : Nodes → ℕ → Event → full.Full → List ℕ
 full_line mesh number e field =
     line (label_number (codes "full line ") number ++ codes ": " ++ event_words mesh e ++ codes ": "
     ++ field_text field)

@@ -2,7 +2,7 @@
 -- The text of a run and its verdict, from the bytes of its input.
 use Rattle.std.specs.Prelude.{ℕ, ◌+◌, List, [], ◌∷◌, ◌++◌, Result, Ok, Err, length, is_some, slice_get}
 use Rattle.mesh_base.specs.Meshes.{with_node}
-use Rattle.mesh_base.specs.declared.events.Counter.{Counter}
+use Rattle.mesh_base.specs.declared.events.Full.{Full as Counter}
 use Rattle.mesh_base.specs.declared.events.Variant.{Variant}
 use Rattle.mesh_model.specs.Worlds.{Event}
 use Rattle.mesh_model.specs.Routes.{route_end}

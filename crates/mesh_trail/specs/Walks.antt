@@ -1,7 +1,7 @@
 -- What a trail answers.
 use Rattle.std.specs.Prelude.{◌≡◌, ◌≤◌, ℕ, List, length, Some, Result, Err, ⊤}
 use Rattle.std.specs.FinMap as maps
-use Rattle.mesh_base.specs.declared.events.Counter.TheVariants as counters
+use Rattle.mesh_base.specs.declared.events.Full.TheVariants as counters
 use Rattle.mesh_base.specs.declared.events.Done.{Done}
 use Rattle.aodv_model.specs.declared.entry.Entry.{Entry}
 use Rattle.aodv_model.specs.declared.entry.Flag.TheVariants.{Val}

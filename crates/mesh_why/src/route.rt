@@ -31,9 +31,9 @@ pub fn walk_at(at: &Point<Trail>, asked: Asked) -> Option<&[usize]>
 // Appends the names of the nodes, each after a space.
 fn push_names(out: &mut LineBuf, mesh: &Mesh, walk: &[usize])
     requires within { All (λ x. x < length mesh.now) walk.now }
-    requires room { length out.old + 16 * length walk.now ≤ LINE_CAPACITY }
-    ensures text { out.new ≡ out.old ++ names_after mesh.now walk.now }
-    ensures length { length out.new ≤ length out.old + 16 * length walk.now }
+    requires room { length out.old.items + 16 * length walk.now ≤ LINE_CAPACITY }
+    ensures text { out.new.items ≡ out.old.items ++ names_after mesh.now walk.now }
+    ensures length { length out.new.items ≤ length out.old.items + 16 * length walk.now }
 {
     for node in walk {
         out.push(b' ');
@@ -44,11 +44,11 @@ fn push_names(out: &mut LineBuf, mesh: &Mesh, walk: &[usize])
 // Appends the line of a walk: at most 201 nodes, each of at most 16 bytes with its space.
 #[tactic(auto, unfolding(crate::specs::Routes::walk_line))]
 fn push_walk(out: &mut LineBuf, mesh: &Mesh, walk: &[usize])
-    requires room { length out.old + 3300 ≤ LINE_CAPACITY }
+    requires room { length out.old.items + 3300 ≤ LINE_CAPACITY }
     requires within { All (λ x. x < length mesh.now) walk.now }
     requires some { 1 ≤ length walk.now }
     requires short { length walk.now ≤ MOST_NODES + 1 }
-    ensures { out.new ≡ out.old ++ walk_line mesh.now walk.now }
+    ensures { out.new.items ≡ out.old.items ++ walk_line mesh.now walk.now }
 {
     push_text(out, b"walk ");
     push_number(out, (walk.len() - 1) as u64);

@@ -3,7 +3,7 @@ use Rattle.std.proofs.Common.{◌≡◌, ◌<◌, ◌+◌, ◌^◌, ℕ, zero, s
 use Rattle.std.specs.Prelude.{slice_get, is_some, option_map}
 use Rattle.mesh_base.specs.Members.{NodeIds}
 use Rattle.mesh_base.specs.Meshes.{Nodes}
-use Rattle.mesh_base.specs.declared.events.Counter.{Counter}
+use Rattle.mesh_base.specs.declared.events.Full.{Full as Counter}
 use Rattle.mesh_base.specs.declared.events.Done.TheVariants as done
 use Rattle.mesh_base.specs.declared.events.Flying.{Flying}
 use Rattle.aodv_model.specs.Cores.{Body}

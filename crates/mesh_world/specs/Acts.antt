@@ -3,7 +3,7 @@ use Rattle.std.specs.Prelude.{◌≡◌, ◌<◌, ℕ, Bool, true, if◌then◌e
 use Rattle.mesh_base.specs.Members.{NodeIds}
 use Rattle.mesh_base.specs.Meshes.{Nodes}
 use Rattle.mesh_base.specs.declared.events.Air.{Air}
-use Rattle.mesh_base.specs.declared.events.Counter.{Counter}
+use Rattle.mesh_base.specs.declared.events.Full.{Full as Counter}
 use Rattle.mesh_base.specs.declared.events.Done.{Done}
 use Rattle.mesh_base.specs.declared.events.Done.TheVariants as done
 use Rattle.mesh_base.specs.declared.events.Effect.{Effect}
@@ -39,9 +39,9 @@ IsFor size Turn = ⊤
 IsFor size (Send d) = d < size
 IsFor size (Ask d) = d < size
 
--- what comes of an act. If `full` names a counter, the act would raise that past its greatest value,
--- and isn't done; otherwise the node reacts so, `left` stays in its inbox, and `took` was taken from
--- there
+-- what comes of an act. If `full` names a counter, the act would raise that past its greatest
+-- value, and isn't done; otherwise the node reacts so, `left` stays in its inbox, and `took` was
+-- taken from there
 pub record ActResult : Type 0 where
   pub full : Option Counter
   pub reaction : Reaction

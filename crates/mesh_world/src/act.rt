@@ -9,14 +9,14 @@ ghost use Rattle.mesh_world.specs.Acts as acts;
 ghost use Rattle.mesh_world.specs.Acts.{Act, IsFor, IsActed, act_result_of, done_of};
 
 use aodv_node::{AskError, Node, SendError, TurnDone, TurnError};
-use mesh_base::{Air, Counter, Done, Effect, Mesh, NodeSet, Packet, Took};
+use mesh_base::{Air, Done, Effect, Full, Mesh, NodeSet, Packet, Took};
 
 /// Why nothing came of an act.
 pub(crate) enum Unacted {
     /// It isn't enabled.
     Idle,
     /// It would raise this counter past its field's greatest value.
-    Full(Counter),
+    Full(Full),
     /// There was not enough memory.
     NoMemory,
 }
@@ -85,7 +85,7 @@ impl Acts for Turn {
             Err(TurnError::Idle) => Err(Unacted::Idle),
             Err(TurnError::Full(field)) => Err(Unacted::Full(field)),
             Err(TurnError::NoMemory) => Err(Unacted::NoMemory),
-            Err(TurnError::Malformed { .. }) => unreachable!(),
+            Err(TurnError::Refused { .. }) => unreachable!(),
             Err(TurnError::Stranger { .. }) => unreachable!(),
         }
     }

@@ -13,7 +13,7 @@ ghost use Rattle.mesh_world.specs.AtOnce.{IsTakenAtOnce};
 
 use crate::event_counts::{EventCounts, tell_answer};
 use crate::world::World;
-use mesh_base::{Counter, Done, Event, Mesh, NoMemory, Packet, Variant};
+use mesh_base::{Done, Event, Full, Mesh, NoMemory, Packet, Variant};
 use std::alloc::Global;
 use thiserror::Error;
 
@@ -22,7 +22,7 @@ use thiserror::Error;
 pub enum StepError {
     /// The node's step would raise this counter past its field's greatest value.
     #[error("a counter is full")]
-    Full { node: usize, field: Counter },
+    Full { node: usize, field: Full },
     /// There was not enough memory.
     #[error("no memory")]
     NoMemory,

@@ -6,12 +6,13 @@ use Rattle.mesh_io.proofs.Writing.{AppendsPrefix-none}
 use Rattle.mesh_model.specs.InMesh.{IsEvent}
 use Rattle.mesh_meaning.specs.Events.{event_of}
 use Rattle.mesh_meaning.specs.Answers.{IsDoneInMesh}
-use Rattle.mesh_text.specs.Schedule.{Does}
+use Rattle.mesh_text.specs.Schedule.{RunState, Does}
 use Rattle.mesh_script.specs.Seen.{IsPrintable}
 use Rattle.mesh_script.specs.declared.line.Line.TheVariants as line
 use Rattle.mesh_run.specs.Runs.{IsLineOf}
 use Rattle.mesh_run.proofs.Events.{answer_mesh, stepped_started}
-use Rattle.mesh_blocks.proofs.Events.{answer_seen}
+use Rattle.mesh_blocks.specs.Lines.{IsKeptFor}
+use Rattle.mesh_blocks.proofs.Events.{answer_seen, answer_goes}
 use Rattle.mesh_blocks.proofs.event.do_event.Goals as goal
 
 pub put_watched-requires-clause-started : goal.put_watched-requires-clause-started
@@ -44,3 +45,9 @@ pub returns-in_err-keep_block-clause-comes : goal.returns-in_err-keep_block-clau
 returns-in_err-keep_block-clause-comes g c =
     let p = err_from_is_err_and c.from_residual.result c.from_residual.ensures.1 in
     rw (p.1, p.2) (AppendsPrefix-none (g.O.Sink.held c.args.out.now) _)
+
+pub returns-in-Ok-put_watched-clause-comes : goal.returns-in-Ok-put_watched-clause-comes
+returns-in-Ok-put_watched-clause-comes g c =
+    let is = answer_seen c.at.inside.state c.args.at.now c.step_made-answer.new.self (event_of c.args.event) c.in-Ok.done c.step_made-answer.new.out.items c.step_made-answer.result c.at.view_is c.in-Ok.is c.step_made-answer.ensures.done in
+    let kept = subst (λ (s : RunState). IsKeptFor c.args.below s (event_of c.args.event) c.keep_block.new.drafts.before.bytes.items) c.at.view_is c.in_ok-keep_block.ensures in
+    answer_goes c.args.below c.args.at.now c.step_made-answer.new.self (event_of c.args.event) c.in-Ok.done c.step_made-answer.new.out.items _ _ is (c.in-Ok-put_watched.ensures.text c.args.at.now is kept)

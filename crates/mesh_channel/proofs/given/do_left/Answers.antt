@@ -284,6 +284,108 @@ left-preserved-in_default-do_event-8 g c =
       copies = c.in_default-do_event.ensures.copies;
     }
 
+pub left-preserved-in_default-do_event-9 : goal.left-preserved-in_default-do_event-9
+left-preserved-in_default-do_event-9 g c =
+    let p = c.left.at in
+    let q = c.next_left.new.at in
+    let r = c.do_event.new.at in
+    let say = says_lines c.args.at.now.say in
+    let e = event_of c.in-Some.event in
+    let o = option_map event_of c.next_left.result in
+    let is = ap (option_map event_of) c.in-Some.is in
+    let told : says_lines q.say ≡ say = ap (λ (x : Channeled). says_lines x.say) c.next_left.ensures.only ∙ ap (λ (x : Channeled). says_lines x.say) c.left.invariant.only in
+    let here = subst (λ (s : Bool). IsLineDone s (line_outcome_at q.point e) r.point (g.O.Sink.held c.left.out) (g.O.Sink.held c.do_event.new.out)) told c.in_default-do_event.ensures.comes in
+    let at_q : q.point ≡ p.point = ap (λ (x : Channeled). x.point) c.next_left.ensures.only in
+    let done = subst (λ (m : RunState). IsLineDone say (line_outcome_at m e) r.point (g.O.Sink.held c.left.out) (g.O.Sink.held c.do_event.new.out)) at_q here in
+    let run_state = c.in_default-do_event.ensures.answer.answer.run_state in
+    let kept : r.channel ≡ record p.channel { left = drop 1 p.channel.left } = ap (λ (x : Channeled). x.channel) c.do_event.ensures.only ∙ c.next_left.ensures.left in
+    let steps = stepped_steps q.point r.point e run_state in
+    let steps_kept = ap (λ (x : Channeled). x.point.steps) c.next_left.ensures.only in
+    let one = left_one p.channel.left e o is c.next_left.ensures.next in
+    let less = ap (λ (x : Channel). length x.left) kept in
+    let size = ap (λ (m : RunState). length m.mesh) at_q in
+    let size_kept = ap length (stepped_mesh q.point r.point e run_state) in
+    record {
+      ran = λ now n t others. c.left.invariant.ran now n t
+          (left_goes say p.point r.point n e p.channel.left r.channel.left o (g.O.Sink.held c.left.out) (g.O.Sink.held c.do_event.new.out) now t is c.next_left.ensures.next (ap (λ (x : Channel). x.left) kept) done others);
+      channel = left_kept c.args.at.now.channel p.channel r.channel c.left.invariant.channel kept;
+      only = moved_on c.args.at.now p r c.left.invariant.only (moved_on p q r (moved_channel p q c.next_left.ensures.only) (moved_point q r c.do_event.ensures.only));
+      some = omega (arith, size, size_kept, c.left.invariant.some);
+      started = stepped_started q.point r.point e run_state;
+      lines = stepped_lines q.point r.point e run_state ∙ ap (λ (m : RunState). m.lines) at_q ∙ c.left.invariant.lines;
+      faults = c.in_default-do_event.ensures.cause.none (λ x. cc) ∙ c.left.invariant.faults;
+      steps = omega (arith, steps, steps_kept, one, less, c.left.invariant.steps);
+      copies = c.in_default-do_event.ensures.copies;
+    }
+
+pub left-preserved-in_default-do_event-10 : goal.left-preserved-in_default-do_event-10
+left-preserved-in_default-do_event-10 g c =
+    let p = c.left.at in
+    let q = c.next_left.new.at in
+    let r = c.do_event.new.at in
+    let say = says_lines c.args.at.now.say in
+    let e = event_of c.in-Some.event in
+    let o = option_map event_of c.next_left.result in
+    let is = ap (option_map event_of) c.in-Some.is in
+    let told : says_lines q.say ≡ say = ap (λ (x : Channeled). says_lines x.say) c.next_left.ensures.only ∙ ap (λ (x : Channeled). says_lines x.say) c.left.invariant.only in
+    let here = subst (λ (s : Bool). IsLineDone s (line_outcome_at q.point e) r.point (g.O.Sink.held c.left.out) (g.O.Sink.held c.do_event.new.out)) told c.in_default-do_event.ensures.comes in
+    let at_q : q.point ≡ p.point = ap (λ (x : Channeled). x.point) c.next_left.ensures.only in
+    let done = subst (λ (m : RunState). IsLineDone say (line_outcome_at m e) r.point (g.O.Sink.held c.left.out) (g.O.Sink.held c.do_event.new.out)) at_q here in
+    let run_state = c.in_default-do_event.ensures.answer.answer.run_state in
+    let kept : r.channel ≡ record p.channel { left = drop 1 p.channel.left } = ap (λ (x : Channeled). x.channel) c.do_event.ensures.only ∙ c.next_left.ensures.left in
+    let steps = stepped_steps q.point r.point e run_state in
+    let steps_kept = ap (λ (x : Channeled). x.point.steps) c.next_left.ensures.only in
+    let one = left_one p.channel.left e o is c.next_left.ensures.next in
+    let less = ap (λ (x : Channel). length x.left) kept in
+    let size = ap (λ (m : RunState). length m.mesh) at_q in
+    let size_kept = ap length (stepped_mesh q.point r.point e run_state) in
+    record {
+      ran = λ now n t others. c.left.invariant.ran now n t
+          (left_goes say p.point r.point n e p.channel.left r.channel.left o (g.O.Sink.held c.left.out) (g.O.Sink.held c.do_event.new.out) now t is c.next_left.ensures.next (ap (λ (x : Channel). x.left) kept) done others);
+      channel = left_kept c.args.at.now.channel p.channel r.channel c.left.invariant.channel kept;
+      only = moved_on c.args.at.now p r c.left.invariant.only (moved_on p q r (moved_channel p q c.next_left.ensures.only) (moved_point q r c.do_event.ensures.only));
+      some = omega (arith, size, size_kept, c.left.invariant.some);
+      started = stepped_started q.point r.point e run_state;
+      lines = stepped_lines q.point r.point e run_state ∙ ap (λ (m : RunState). m.lines) at_q ∙ c.left.invariant.lines;
+      faults = c.in_default-do_event.ensures.cause.none (λ x. cc) ∙ c.left.invariant.faults;
+      steps = omega (arith, steps, steps_kept, one, less, c.left.invariant.steps);
+      copies = c.in_default-do_event.ensures.copies;
+    }
+
+pub left-preserved-in_default-do_event-11 : goal.left-preserved-in_default-do_event-11
+left-preserved-in_default-do_event-11 g c =
+    let p = c.left.at in
+    let q = c.next_left.new.at in
+    let r = c.do_event.new.at in
+    let say = says_lines c.args.at.now.say in
+    let e = event_of c.in-Some.event in
+    let o = option_map event_of c.next_left.result in
+    let is = ap (option_map event_of) c.in-Some.is in
+    let told : says_lines q.say ≡ say = ap (λ (x : Channeled). says_lines x.say) c.next_left.ensures.only ∙ ap (λ (x : Channeled). says_lines x.say) c.left.invariant.only in
+    let here = subst (λ (s : Bool). IsLineDone s (line_outcome_at q.point e) r.point (g.O.Sink.held c.left.out) (g.O.Sink.held c.do_event.new.out)) told c.in_default-do_event.ensures.comes in
+    let at_q : q.point ≡ p.point = ap (λ (x : Channeled). x.point) c.next_left.ensures.only in
+    let done = subst (λ (m : RunState). IsLineDone say (line_outcome_at m e) r.point (g.O.Sink.held c.left.out) (g.O.Sink.held c.do_event.new.out)) at_q here in
+    let run_state = c.in_default-do_event.ensures.answer.answer.run_state in
+    let kept : r.channel ≡ record p.channel { left = drop 1 p.channel.left } = ap (λ (x : Channeled). x.channel) c.do_event.ensures.only ∙ c.next_left.ensures.left in
+    let steps = stepped_steps q.point r.point e run_state in
+    let steps_kept = ap (λ (x : Channeled). x.point.steps) c.next_left.ensures.only in
+    let one = left_one p.channel.left e o is c.next_left.ensures.next in
+    let less = ap (λ (x : Channel). length x.left) kept in
+    let size = ap (λ (m : RunState). length m.mesh) at_q in
+    let size_kept = ap length (stepped_mesh q.point r.point e run_state) in
+    record {
+      ran = λ now n t others. c.left.invariant.ran now n t
+          (left_goes say p.point r.point n e p.channel.left r.channel.left o (g.O.Sink.held c.left.out) (g.O.Sink.held c.do_event.new.out) now t is c.next_left.ensures.next (ap (λ (x : Channel). x.left) kept) done others);
+      channel = left_kept c.args.at.now.channel p.channel r.channel c.left.invariant.channel kept;
+      only = moved_on c.args.at.now p r c.left.invariant.only (moved_on p q r (moved_channel p q c.next_left.ensures.only) (moved_point q r c.do_event.ensures.only));
+      some = omega (arith, size, size_kept, c.left.invariant.some);
+      started = stepped_started q.point r.point e run_state;
+      lines = stepped_lines q.point r.point e run_state ∙ ap (λ (m : RunState). m.lines) at_q ∙ c.left.invariant.lines;
+      faults = c.in_default-do_event.ensures.cause.none (λ x. cc) ∙ c.left.invariant.faults;
+      steps = omega (arith, steps, steps_kept, one, less, c.left.invariant.steps);
+      copies = c.in_default-do_event.ensures.copies;
+    }
+
 pub left-smaller : goal.left-smaller
 left-smaller g c =
     let p = c.left.at in

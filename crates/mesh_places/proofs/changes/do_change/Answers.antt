@@ -28,7 +28,7 @@ returns-in_err-put_change-clause-text g c =
     (still c.args.at.now.point c.step_change.new.at (event_of c.in-Some.event) c.in_ok-step_change.ensures.run_state) c.in-Some.ensures.value c.in_err-put_change.ensures.text)
 
 pub returns-clause-run_state : goal.returns-clause-run_state
-returns-clause-run_state g c = c.put_change.ensures.same ∙ after_change c.args.at.now.point c.step_change.new.at (event_of c.in-Some.event) _ c.in_ok-step_change.ensures.run_state c.in-Some.ensures.value
+returns-clause-run_state g c = after_change c.args.at.now.point c.step_change.new.at (event_of c.in-Some.event) _ c.in_ok-step_change.ensures.run_state c.in-Some.ensures.value
 
 pub returns-clause-text : goal.returns-clause-text
 returns-clause-text g c =

@@ -25,7 +25,7 @@ returns-in_err-do_coming-clause-comes g c =
     let p = err_from_is_err_and c.from_residual-in_err-do_coming.result c.from_residual-in_err-do_coming.ensures.1 in
     rw p.1 (record {
       comes = half_written c.args.at.now.reach (run_state_of c.args.at.now) c.args.bytes.now c.args.new.now _ (g.O.Sink.held c.args.out.now) (g.O.Sink.held c.put_echo.new.out) (g.O.Sink.held c.do_coming.new.out) p.0 c.requires.said
-          (subst (λ (s : Stop). IsWant s) (sym p.2) c.in_err-do_coming.ensures.stops) c.in_ok-put_echo.ensures.text (rw c.point.view_is at c.in_err-do_coming.ensures.text);
+          (subst (λ (s : Stop). IsWant s) (sym p.2) c.in_err-do_coming.ensures.stops) c.in_ok-put_echo.ensures.text c.in_err-do_coming.ensures.text;
       only = c.do_coming.ensures.only ∙ ap (λ (q : Placed). moved c.args.at.now (record { run = c.do_coming.new.at.point; places = q.places })) (sym c.do_coming.ensures.only);
       places = tt;
       lines = tt;
@@ -34,15 +34,15 @@ returns-in_err-do_coming-clause-comes g c =
 
 pub count_line-requires : goal.count_line-requires
 count_line-requires g c =
-    let same = lines_same c.args.at.now.reach (run_state_of c.args.at.now) c.args.new.now c.do_coming.new.at.point (rw c.point.view_is at c.in_ok-do_coming.ensures.run_state) in
+    let same = lines_same c.args.at.now.reach (run_state_of c.args.at.now) c.args.new.now c.do_coming.new.at.point c.in_ok-do_coming.ensures.run_state in
     omega (arith, c.requires.few)
 
 pub returns-clause-comes : goal.returns-clause-comes
 returns-clause-comes g c =
-    let is = c.count_line.ensures ∙ ap with_line_read (rw c.point.view_is at c.in_ok-do_coming.ensures.run_state) in
+    let is = c.count_line.ensures ∙ ap with_line_read c.in_ok-do_coming.ensures.run_state in
     record {
       comes = line_done c.args.at.now.reach (run_state_of c.args.at.now) c.args.bytes.now c.args.new.now c.count_line.new.self (g.O.Sink.held c.args.out.now) (g.O.Sink.held c.put_echo.new.out) (g.O.Sink.held c.do_coming.new.out)
-          c.requires.said is c.in_ok-put_echo.ensures.text (rw c.point.view_is at c.in_ok-do_coming.ensures.text);
+          c.requires.said is c.in_ok-put_echo.ensures.text c.in_ok-do_coming.ensures.text;
       only = ap (λ (q : Placed). record q { point = c.count_line.new.self; places = c.come.new.self }) c.do_coming.ensures.only;
       places = c.come.ensures ∙ ap (λ (q : Placed). with_placing q.places c.args.new.now) c.do_coming.ensures.only ∙ sym (places-placing (run_state_of c.args.at.now) c.args.bytes.now c.args.new.now c.requires.said);
       lines = lines_grow c.args.at.now.reach (run_state_of c.args.at.now) c.args.new.now c.count_line.new.self is;

@@ -11,7 +11,7 @@ least_or-requires-clause-casts c =
     let es = c.args.casts.now.entries in
     let r = c.requires in
     let now = ap (λ m. m.entries) c.insert_entry.ensures.1 ∙ c.in-Ok.ensures.update.1 c.args.cast ∙ insert-last 1 c.args.next es c.args.cast r.casts.rising in
-    (_, casts-push es _ c.args.next c.args.cast r.casts (search rules ∙ now) r.some r.left r.few)
+    (_, casts-push es _ c.args.next c.args.cast r.casts (search rules ∙ now) r.some r.left r.alone r.few)
 
 pub least_or-requires-clause-least : goal.least_or-requires-clause-least
 least_or-requires-clause-least c =
@@ -39,4 +39,4 @@ returns-clause-casts c =
     let es = c.args.casts.now.entries in
     let r = c.requires in
     let now = ap (λ m. m.entries) c.insert_entry.ensures.1 ∙ c.in-Ok.ensures.update.1 c.args.cast ∙ insert-last 1 c.args.next es c.args.cast r.casts.rising in
-    casts-push es _ c.args.next c.args.cast r.casts (search rules ∙ now) r.some r.left r.few
+    casts-push es _ c.args.next c.args.cast r.casts (search rules ∙ now) r.some r.left r.alone r.few

@@ -5,7 +5,7 @@ use Rattle.indexmap.specs.IndexMap.{IndexMap}
 use Rattle.mesh_radio.specs.Casts.{AreCasts, IsLeastOf, copies_of}
 use Rattle.mesh_radio.specs.declared.casts.Cast.{Cast}
 use Rattle.mesh_radio.proofs.Changes.{size-one, copies-one}
-use Rattle.mesh_radio.proofs.Gathers.{joined-copies, joined-casts, joined-least}
+use Rattle.mesh_radio.proofs.Gathers.{joined-copies, joined-casts, joined-least, same-packet}
 use Rattle.mesh_radio.proofs.gathering.gather.Goals as goal
 
 pub returns-then-is_next-clause-copies : goal.returns-then-is_next-clause-copies
@@ -37,14 +37,21 @@ returns-then-is_next-clause-least c =
 pub launch-requires-clause-some : goal.launch-requires-clause-some
 launch-requires-clause-some c =
     let f = c.args.f in
-    let cast : Cast = record { to = c.add.new.self; left = c.add.new.self; from = f.from; bytes = c.own.result } in
+    let cast : Cast = record { to = c.add.new.self; left = c.add.new.self; from = f.from; bytes = c.unwrap_or.result } in
+    let one = size-one cast f.to c.requires.receiver (c.add.ensures ∙ ap (λ s. insert s f.to) c.new-to.ensures) in
+    omega arith
+
+pub launch-requires-clause-alone : goal.launch-requires-clause-alone
+launch-requires-clause-alone c = λ _.
+    let f = c.args.f in
+    let cast : Cast = record { to = c.add.new.self; left = c.add.new.self; from = f.from; bytes = c.unwrap_or.result } in
     let one = size-one cast f.to c.requires.receiver (c.add.ensures ∙ ap (λ s. insert s f.to) c.new-to.ensures) in
     omega arith
 
 pub launch-requires-clause-few : goal.launch-requires-clause-few
 launch-requires-clause-few c =
     let f = c.args.f in
-    let cast : Cast = record { to = c.add.new.self; left = c.add.new.self; from = f.from; bytes = c.own.result } in
+    let cast : Cast = record { to = c.add.new.self; left = c.add.new.self; from = f.from; bytes = c.unwrap_or.result } in
     let one = size-one cast f.to c.requires.receiver (c.add.ensures ∙ ap (λ s. insert s f.to) c.new-to.ensures) in
     omega (arith, c.requires.id.1)
 
@@ -52,15 +59,15 @@ pub returns-clause-copies : goal.returns-clause-copies
 returns-clause-copies c =
     let f = c.args.f in
     let before = c.make_way-least.new.casts.entries in
-    let cast : Cast = record { to = c.add.new.self; left = c.add.new.self; from = f.from; bytes = c.own.result } in
+    let cast : Cast = record { to = c.add.new.self; left = c.add.new.self; from = f.from; bytes = c.unwrap_or.result } in
     let only = c.add.ensures ∙ ap (λ s. insert s f.to) c.new-to.ensures in
     copies-one before c.launch.new.casts.entries f.id f.to cast c.launch.ensures.entries c.requires.receiver only refl
-    ∙ ap (λ bs. copies_of before ++ record f { bytes = bs } ∷ []) c.own.ensures
-    ∙ ap (λ fs. fs ++ f ∷ []) (c.make_way-least.ensures.same ∙ ap copies_of c.reserve.ensures.entries)
+    ∙ ap (λ bs. copies_of before ++ record f { bytes = bs } ∷ []) (c.unwrap_or.ensures ∙ same-packet c.share_last-shared.result c.as_slice.result.now f.bytes c.share_last-shared.ensures.packet c.as_slice.ensures)
+    ∙ ap (λ fs. fs ++ f ∷ []) (c.make_way-least.ensures.same ∙ ap copies_of (c.share_last-shared.ensures.entries ∙ c.reserve.ensures.entries))
 
 pub returns-clause-casts : goal.returns-clause-casts
 returns-clause-casts c =
     let f = c.args.f in
-    let cast : Cast = record { to = c.add.new.self; left = c.add.new.self; from = f.from; bytes = c.own.result } in
+    let cast : Cast = record { to = c.add.new.self; left = c.add.new.self; from = f.from; bytes = c.unwrap_or.result } in
     let one = size-one cast f.to c.requires.receiver (c.add.ensures ∙ ap (λ s. insert s f.to) c.new-to.ensures) in
     subst (λ n. AreCasts c.launch.new.casts.entries (f.id + n)) one c.launch.ensures.casts

@@ -30,6 +30,7 @@ returns-in-Some c =
             rising = rising-last 1 c.requires.casts.0 c.args.id (length es - 1) es e casts.rising at (omega arith) (omega (arith, c.count.ensures.value));
             few = omega (arith, c.ranges.id.fits);
             lefts = casts.lefts;
+            alone = casts.alone;
           }
       | false ↦ λ _. tt
     ] refl

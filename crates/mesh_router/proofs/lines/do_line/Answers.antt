@@ -1,6 +1,6 @@
 use Rattle.std.proofs.Common.{◌≡◌, Ok, ap, sym, subst}
-use Rattle.mesh_peers.specs.Lines.{AcceptedLine, Nothing}
-use Rattle.mesh_peers.specs.Seen.{accepted_of}
+use Rattle.mesh_script.specs.NodeLines.{AcceptedLine, Nothing}
+use Rattle.mesh_script.specs.NodeSeen.{accepted_of}
 use Rattle.mesh_router.specs.Lines.{outcome_of_line, refused_words}
 use Rattle.mesh_router.specs.Runs.{IsLineRun}
 use Rattle.mesh_router.specs.Joins.{adds-none}

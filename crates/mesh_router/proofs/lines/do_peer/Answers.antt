@@ -3,9 +3,9 @@ use Rattle.std.proofs.lemmas.Result.{err_from_is_err_and}
 use Rattle.std.specs.Io.KnownBytes.{Appends}
 use Rattle.mesh_io.specs.Puts.{AppendsPrefix}
 use Rattle.mesh_grammar.specs.Written.{line}
-use Rattle.mesh_peers.specs.Peers.{PeersSeen, with_peer}
-use Rattle.mesh_peers.specs.Lines.{AcceptedLine, Peer, words_of}
-use Rattle.mesh_peers.specs.Seen.{accepted_of}
+use Rattle.mesh_script.specs.Peers.{PeersSeen, with_peer}
+use Rattle.mesh_script.specs.NodeLines.{AcceptedLine, Peer, words_of}
+use Rattle.mesh_script.specs.NodeSeen.{accepted_of}
 use Rattle.mesh_router.specs.Routers.{Joining, RunState, peers_in, router_in, counted_at}
 use Rattle.mesh_router.specs.Finds.{Find}
 use Rattle.mesh_router.specs.Lines.{outcome_of_line, join_outcome, words_at, refused_words}

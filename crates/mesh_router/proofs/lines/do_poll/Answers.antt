@@ -1,9 +1,9 @@
 use Rattle.std.proofs.Common.{◌≡◌, ◌≤◌, Ok, Err, ap, ◌∙◌, sym, subst, arith}
 use Rattle.std.proofs.lemmas.Result.{err_from_is_err_and}
-use Rattle.mesh_peers.specs.Peers.{PeersSeen}
-use Rattle.mesh_peers.specs.Lines.{AcceptedLine, Polls}
-use Rattle.mesh_peers.specs.Seen.{accepted_of, IsPrintable}
-use Rattle.mesh_peers.specs.declared.line.NodeLine.{NodeLine}
+use Rattle.mesh_script.specs.Peers.{PeersSeen}
+use Rattle.mesh_script.specs.NodeLines.{AcceptedLine, Polls}
+use Rattle.mesh_script.specs.NodeSeen.{accepted_of, IsPrintable}
+use Rattle.mesh_script.specs.declared.node_line.NodeLine.{NodeLine}
 use Rattle.mesh_router.specs.declared.stop.Stop.{Stop}
 use Rattle.mesh_router.specs.Routers.{Router, RunState, peers_in, router_in, is_running}
 use Rattle.mesh_router.specs.Lines.{outcome_of_line, words_at, refused_words}

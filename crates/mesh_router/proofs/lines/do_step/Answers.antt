@@ -1,7 +1,7 @@
 use Rattle.std.proofs.Common.{◌≡◌, Err, ap, ◌∙◌, sym, subst}
 use Rattle.std.proofs.lemmas.Result.{err_from_is_err_and}
-use Rattle.mesh_peers.specs.Peers.{PeersSeen}
-use Rattle.mesh_peers.specs.Seen.{accepted_of, IsPrintable}
+use Rattle.mesh_script.specs.Peers.{PeersSeen}
+use Rattle.mesh_script.specs.NodeSeen.{accepted_of, IsPrintable}
 use Rattle.mesh_router.specs.declared.stop.Stop.{Stop}
 use Rattle.mesh_router.specs.Routers.{Router, RunState, peers_in, router_in, is_running}
 use Rattle.mesh_router.specs.Lines.{words_at, step_of}

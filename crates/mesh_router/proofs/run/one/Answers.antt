@@ -3,8 +3,8 @@ use Rattle.std.specs.Io.KnownBytes.{Appends}
 use Rattle.mesh_io.specs.Puts.{AppendsPrefix}
 use Rattle.mesh_shell.specs.Pieces.{Whole}
 use Rattle.mesh_grammar.specs.declared.fault.BadWhy.TheVariants.{Fault}
-use Rattle.mesh_peers.specs.Peers.{PeersSeen}
-use Rattle.mesh_peers.specs.Seen.{accepted_of}
+use Rattle.mesh_script.specs.Peers.{PeersSeen}
+use Rattle.mesh_script.specs.NodeSeen.{accepted_of}
 use Rattle.mesh_router.specs.declared.stop.Stop.{Stop}
 use Rattle.mesh_router.specs.Lines.{outcome_of_line, refused_in, refused_words}
 use Rattle.mesh_router.specs.declared.status.NodeStatus.TheVariants as status

@@ -1,7 +1,7 @@
 use Rattle.std.proofs.Common.{None, refl}
 use Rattle.mesh_grammar.specs.Written.{line}
-use Rattle.mesh_peers.specs.Lines.{words_of}
-use Rattle.mesh_peers.specs.Seen.{accepted_of}
+use Rattle.mesh_script.specs.NodeLines.{words_of}
+use Rattle.mesh_script.specs.NodeSeen.{accepted_of}
 use Rattle.mesh_router.specs.Logs.{text_log}
 use Rattle.mesh_router.specs.Peers.{code_log}
 use Rattle.mesh_router.proofs.Logging.{says-fault, says-join, adds-text, prefix-text, prefix-more}

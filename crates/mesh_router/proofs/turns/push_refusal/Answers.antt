@@ -7,7 +7,7 @@ use Rattle.mesh_router.proofs.turns.push_refusal.Goals as goal
 
 pub returns-in-UnknownType-clause-text : goal.returns-in-UnknownType-clause-text
 returns-in-UnknownType-clause-text c =
-    let old = c.args.out.now in
+    let old = (c.args.out.now).items in
     c.push_number.ensures.text
     ∙ (λ i. c.push_text-in-UnknownType.ensures.text i ++ decimal (c.from.ensures i))
     ∙ append_assoc old (codes "unknown type ") (decimal c.in-UnknownType.kind)
@@ -15,4 +15,4 @@ returns-in-UnknownType-clause-text c =
 
 pub returns-in-WrongLength-clause-text : goal.returns-in-WrongLength-clause-text
 returns-in-WrongLength-clause-text c =
-    c.push_text-in-WrongLength.ensures.text ∙ ap (λ (w : WireError). c.args.out.now ++ refusal_words w) (sym c.in-WrongLength.is)
+    c.push_text-in-WrongLength.ensures.text ∙ ap (λ (w : WireError). (c.args.out.now).items ++ refusal_words w) (sym c.in-WrongLength.is)

@@ -21,12 +21,12 @@ returns-in_err-say_echo-clause-comes g c =
 pub returns-in_err-say_echo-clause-way : goal.returns-in_err-say_echo-clause-way
 returns-in_err-say_echo-clause-way g c =
     let p = err_from_is_err_and c.from_residual.result c.from_residual.ensures.1 in
-    rw p.1 (reached_none c.args.at.now _ (events_chosen c.args.count c.args.at.now) c.at.view_is)
+    rw p.1 (reached_none c.args.at.now _ (events_chosen c.args.count c.args.at.now) refl)
 
 pub returns-in-Err-clause-comes : goal.returns-in-Err-clause-comes
 returns-in-Err-clause-comes g c =
     let P : List ℕ → Type 0 = λ l. Appends (g.O.Sink.held c.args.out.now) (g.O.Sink.held c.say_echo.new.out) l in
-    let ran = chosen_ran c.args.say c.at.inside.state c.args.at.now c.do_events-ran.new.task.at.now c.args.count _ _ (Err c.in-Err.stop) c.at.view_is c.in-Err.ensures.ran in
+    let ran = chosen_ran c.args.say c.args.at.now c.args.at.now c.do_events-ran.new.task.at.now c.args.count _ _ (Err c.in-Err.stop) refl c.in-Err.ensures.ran in
     subst (λ (n : RunState). IsLineStopped c.args.say c.args.at.now (outcome_of_line c.args.at.now (Chooses c.args.count)) n (g.O.Sink.held c.args.out.now) (g.O.Sink.held c.do_events-ran.new.out) c.in-Err.stop)
     (search rules)
     (auto_stops c.args.say c.args.at.now c.args.at.now c.do_events-ran.new.task.at.now c.args.count _ (g.O.Sink.held c.say_echo.new.out) _ c.in-Err.stop (started_same c.args.at.now c.requires.started)
@@ -35,8 +35,8 @@ returns-in-Err-clause-comes g c =
 pub returns-then-not-say-clause-comes : goal.returns-then-not-say-clause-comes
 returns-then-not-say-clause-comes g c =
     let P : List ℕ → Type 0 = λ l. Appends (g.O.Sink.held c.args.out.now) (g.O.Sink.held c.say_echo.new.out) l in
-    let many = chosen_many c.at.inside.state c.args.at.now c.args.count c.in-Ok.did c.at.view_is c.in-Ok.ensures.did in
-    let ran = chosen_ran c.args.say c.at.inside.state c.args.at.now c.do_events-ran.new.task.at.now c.args.count _ _ (Ok c.in-Ok.did) c.at.view_is c.in-Ok.ensures.ran in
+    let many = chosen_many c.args.at.now c.args.at.now c.args.count c.in-Ok.did refl c.in-Ok.ensures.did in
+    let ran = chosen_ran c.args.say c.args.at.now c.args.at.now c.do_events-ran.new.task.at.now c.args.count _ _ (Ok c.in-Ok.did) refl c.in-Ok.ensures.ran in
     subst (λ (n : RunState). IsLineDone c.args.say (outcome_of_line c.args.at.now (Chooses c.args.count)) (with_line_read n) (g.O.Sink.held c.args.out.now) (g.O.Sink.held c.do_events-ran.new.out))
     (search rules)
     (auto_goes c.args.say c.args.at.now c.args.at.now c.do_events-ran.new.task.at.now _ c.args.count c.in-Ok.did _ (g.O.Sink.held c.say_echo.new.out) (g.O.Sink.held c.do_events-ran.new.out) _ (started_same c.args.at.now c.requires.started) many
@@ -46,24 +46,23 @@ pub returns-in_err-put_auto_end-clause-comes : goal.returns-in_err-put_auto_end-
 returns-in_err-put_auto_end-clause-comes g c =
     let p = err_from_is_err_and c.from_residual-in_err-put_auto_end.result c.from_residual-in_err-put_auto_end.ensures.1 in
     let P : List ℕ → Type 0 = λ l. Appends (g.O.Sink.held c.args.out.now) (g.O.Sink.held c.say_echo.new.out) l in
-    let many = chosen_many c.at.inside.state c.args.at.now c.args.count c.in-Ok.did c.at.view_is c.in-Ok.ensures.did in
-    let ran = chosen_ran c.args.say c.at.inside.state c.args.at.now c.do_events-ran.new.task.at.now c.args.count _ _ (Ok c.in-Ok.did) c.at.view_is c.in-Ok.ensures.ran in
+    let many = chosen_many c.args.at.now c.args.at.now c.args.count c.in-Ok.did refl c.in-Ok.ensures.did in
+    let ran = chosen_ran c.args.say c.args.at.now c.args.at.now c.do_events-ran.new.task.at.now c.args.count _ _ (Ok c.in-Ok.did) refl c.in-Ok.ensures.ran in
     rw (p.1, p.2) (auto_end_front c.args.say c.args.at.now c.args.at.now c.do_events-ran.new.task.at.now c.args.count _ _ (g.O.Sink.held c.say_echo.new.out) (g.O.Sink.held c.do_events-ran.new.out) _ (started_same c.args.at.now c.requires.started) many
     (subst P (echoed c.args.say c.args.bytes.now _ (λ loud. (c.requires.echo loud).1)) c.in_ok-say_echo.ensures.text) ran (loud_front c.args.say _ _ _ c.if-not-say.false c.in_err-put_auto_end.ensures.text))
 
 pub returns-clause-comes : goal.returns-clause-comes
 returns-clause-comes g c =
     let P : List ℕ → Type 0 = λ l. Appends (g.O.Sink.held c.args.out.now) (g.O.Sink.held c.say_echo.new.out) l in
-    let many = chosen_many c.at.inside.state c.args.at.now c.args.count c.in-Ok.did c.at.view_is c.in-Ok.ensures.did in
-    let ran = chosen_ran c.args.say c.at.inside.state c.args.at.now c.do_events-ran.new.task.at.now c.args.count _ _ (Ok c.in-Ok.did) c.at.view_is c.in-Ok.ensures.ran in
+    let many = chosen_many c.args.at.now c.args.at.now c.args.count c.in-Ok.did refl c.in-Ok.ensures.did in
+    let ran = chosen_ran c.args.say c.args.at.now c.args.at.now c.do_events-ran.new.task.at.now c.args.count _ _ (Ok c.in-Ok.did) refl c.in-Ok.ensures.ran in
     auto_goes c.args.say c.args.at.now c.args.at.now c.do_events-ran.new.task.at.now _ c.args.count c.in-Ok.did _ (g.O.Sink.held c.say_echo.new.out) (g.O.Sink.held c.do_events-ran.new.out) _ (started_same c.args.at.now c.requires.started) many
-    (subst P (echoed c.args.say c.args.bytes.now _ (λ loud. (c.requires.echo loud).1)) c.in_ok-say_echo.ensures.text) ran (loud_whole c.args.say _ _ _ c.if-not-say.false c.in_ok-put_auto_end.ensures.text) (ap with_line_read (c.at-2.view_is ∙ search rules))
+    (subst P (echoed c.args.say c.args.bytes.now _ (λ loud. (c.requires.echo loud).1)) c.in_ok-say_echo.ensures.text) ran (loud_whole c.args.say _ _ _ c.if-not-say.false c.in_ok-put_auto_end.ensures.text) (search rules)
 
 pub returns-in-Err-clause-way : goal.returns-in-Err-clause-way
-returns-in-Err-clause-way g c = chosen_way c.at.inside.state c.args.at.now c.do_events-ran.new.task.at.now _ c.args.count c.at.view_is (search rules) c.in-Err.ensures.way
+returns-in-Err-clause-way g c = chosen_way c.args.at.now c.args.at.now c.do_events-ran.new.task.at.now _ c.args.count refl (search rules) c.in-Err.ensures.way
 
 pub returns-in_err-put_auto_end-clause-way : goal.returns-in_err-put_auto_end-clause-way
 returns-in_err-put_auto_end-clause-way g c =
     err_of c.from_residual-in_err-put_auto_end.result
-    (subst (λ (n : RunState). IsReached c.args.at.now (events_chosen c.args.count c.args.at.now) n) (sym c.at-2.view_is)
-    (chosen_way c.at.inside.state c.args.at.now c.do_events-ran.new.task.at.now _ c.args.count c.at.view_is (search rules) c.in-Ok.ensures.way))
+    (chosen_way c.args.at.now c.args.at.now c.do_events-ran.new.task.at.now _ c.args.count refl (search rules) c.in-Ok.ensures.way)

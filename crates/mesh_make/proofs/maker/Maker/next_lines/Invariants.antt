@@ -6,9 +6,9 @@ use Rattle.mesh_make.proofs.maker.Maker.next_lines.Given as goal
 abbrev pub invariant-lines : goal.invariant-lines
 invariant-lines l = record {
   making : IsMaking l.self;
-  text : still_to_come l.fn.self ≡ l.out ++ still_to_come l.self;
-  some : 0 < length l.out;
+  text : still_to_come l.fn.self ≡ (l.out).items ++ still_to_come l.self;
+  some : 0 < length (l.out).items;
 }
 
 abbrev pub decreases-lines : goal.decreases-lines
-decreases-lines l = LINE_CAPACITY - length l.out
+decreases-lines l = LINE_CAPACITY - length (l.out).items

@@ -18,7 +18,7 @@ grow-requires c = next_printable c.args.self.now c.line_at-line.result c.require
 pub returns-clause-text : goal.returns-clause-text
 returns-clause-text c =
     let m = c.args.self.now in
-    rw (c.push.ensures.text, c.push_line.ensures.text, c.line_at-line.ensures.line, c.requires.making.mesh, c.stage_after-self.ensures.after, c.line_at-line.ensures.rng)
+    rw (c.push.ensures.items, c.push_line.ensures.text, c.line_at-line.ensures.line, c.requires.making.mesh, c.stage_after-self.ensures.after, c.line_at-line.ensures.rng)
     (joined_on _ _ _ _ _ (text_more m.size.nodes m.size.steps m.stage m.rng c.requires.making.stage c.requires.more))
 
 pub returns-clause-making : goal.returns-clause-making

@@ -44,6 +44,12 @@ launch-self-inside-requires-clause-some c =
     let one = size-one second c.in_ok-spot.spot.to c.in_ok-spot.ensures.below (c.add.ensures ∙ ap (λ s. insert s c.in_ok-spot.spot.to) c.new-to.ensures) in
     omega arith
 
+pub launch-self-inside-requires-clause-alone : goal.launch-self-inside-requires-clause-alone
+launch-self-inside-requires-clause-alone c = λ _.
+    let second : Cast = record { to = c.add.new.self; left = c.add.new.self; from = c.in_ok-cast.cast.now.from; bytes = c.double_packet.result } in
+    let one = size-one second c.in_ok-spot.spot.to c.in_ok-spot.ensures.below (c.add.ensures ∙ ap (λ s. insert s c.in_ok-spot.spot.to) c.new-to.ensures) in
+    omega arith
+
 pub launch-self-inside-requires-clause-few : goal.launch-self-inside-requires-clause-few
 launch-self-inside-requires-clause-few c =
     let second : Cast = record { to = c.add.new.self; left = c.add.new.self; from = c.in_ok-cast.cast.now.from; bytes = c.double_packet.result } in

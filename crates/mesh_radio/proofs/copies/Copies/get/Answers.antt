@@ -1,6 +1,5 @@
-use Rattle.std.proofs.Common.{◌∙◌, ap, sym, ℕ, List, Option, Some}
+use Rattle.std.proofs.Common.{◌∙◌, ap, sym}
 use Rattle.std.specs.Prelude.{option_map}
-use Rattle.mesh_base.specs.declared.events.Flying.{Flying}
 use Rattle.mesh_radio.specs.Copies.{held_seen, find_copy}
 use Rattle.mesh_radio.specs.Kept.{Flights}
 use Rattle.mesh_radio.proofs.Entries.{find-all, found-copy}
@@ -17,7 +16,5 @@ pub returns : goal.returns
 returns c =
     let inside = c.self.inside in
     let cast = c.in_ok-cast.cast.now in
-    let seen : List ℕ → Option Flying = λ bs. Some (record { id = c.args.id; from = cast.from; to = c.in_ok-spot.spot.to; bytes = bs }) in
-    ap seen c.as_bytes.ensures
-    ∙ sym (found-copy inside.casts.entries 1 inside.next c.args.id c.in_ok-spot.spot.index c.in_ok-spot.spot.to (c.in_ok-cast.field-0-0.now, cast) (c.self.invariant.0).casts.rising c.in_ok-spot.ensures.some (sym c.in_ok-cast.ensures.entry))
+    sym (found-copy inside.casts.entries 1 inside.next c.args.id c.in_ok-spot.spot.index c.in_ok-spot.spot.to (c.in_ok-cast.field-0-0.now, cast) (c.self.invariant.0).casts.rising c.in_ok-spot.ensures.some (sym c.in_ok-cast.ensures.entry))
     ∙ ap (λ (v : Flights). find_copy v.flying c.args.id) c.self.view_is

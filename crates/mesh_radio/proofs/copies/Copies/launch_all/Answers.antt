@@ -45,7 +45,7 @@ invariant_of-self c =
     let kept = c.self.invariant.0 in
     let es = inside.casts.entries in
     let ms = member_list c.args.to.now in
-    let cast : Cast = record { to = c.args.to.now; left = c.args.to.now; from = c.args.from; bytes = c.own.result } in
+    let cast : Cast = record { to = c.args.to.now; left = c.args.to.now; from = c.args.from; bytes = c.fill.result } in
     let launched = c.launch-self-inside in
     let made : size cast ≡ c.args.copies = sym c.requires.all in
     let copies = ap copies_of launched.ensures.entries ∙ cast-copies es inside.next cast refl in
@@ -61,7 +61,7 @@ invariant_of-self c =
           data_append (copies_of es) (copies_to ms inside.next cast.from cast.bytes),
           data_cast ms inside.next cast.from cast.bytes,
           c.if_data.ensures,
-          ap (λ bs. cond (is_data bs) (length ms) 0) (c.own.ensures ∙ c.fill.ensures.bytes),
+          ap (λ bs. cond (is_data bs) (length ms) 0) c.fill.ensures.bytes,
           ap (λ n. cond (is_data c.args.bytes.now) n 0) made,
         );
       },
@@ -74,10 +74,10 @@ returns c =
     let inside = c.self.inside in
     let es = inside.casts.entries in
     let ms = member_list c.args.to.now in
-    let cast : Cast = record { to = c.args.to.now; left = c.args.to.now; from = c.args.from; bytes = c.own.result } in
+    let cast : Cast = record { to = c.args.to.now; left = c.args.to.now; from = c.args.from; bytes = c.fill.result } in
     let made : c.args.copies ≡ length ms = c.requires.all in
     let flying = ap copies_of c.launch-self-inside.ensures.entries ∙ cast-copies es inside.next cast refl
-    ∙ ap (λ bs. copies_of es ++ copies_to ms inside.next c.args.from bs) (c.own.ensures ∙ c.fill.ensures.bytes) in
+    ∙ ap (λ bs. copies_of es ++ copies_to ms inside.next c.args.from bs) c.fill.ensures.bytes in
     let next = ap (λ n. inside.next + n) made in
     let room = ap (λ (m : Memory). m.room) c.fill.ensures.room ∙ ap (λ n. inside.reserve.room - n) made in
     let most = ap (λ (m : Memory). m.most) c.fill.ensures.room in

@@ -3,8 +3,8 @@ use Rattle.std.proofs.lemmas.Result.{err_from_is_err_and}
 use Rattle.std.specs.FinSet as sets
 use Rattle.mesh_base.specs.Members.{NodeIds}
 use Rattle.mesh_grammar.specs.Written.{line}
-use Rattle.mesh_peers.specs.Lines.{words_of}
-use Rattle.mesh_peers.specs.Seen.{accepted_of}
+use Rattle.mesh_script.specs.NodeLines.{words_of}
+use Rattle.mesh_script.specs.NodeSeen.{accepted_of}
 use Rattle.mesh_router.specs.Logs.{text_log}
 use Rattle.mesh_router.specs.Routers.{Router}
 use Rattle.mesh_router.specs.Turns.{StepDone, idle_line}

@@ -6,8 +6,8 @@ use Rattle.aodv_model.specs.Fullness.{send_full}
 use Rattle.aodv_node.specs.Discovered.{IsSend}
 use Rattle.aodv_node.specs.declared.answers.SendError.{SendError}
 use Rattle.mesh_grammar.specs.Written.{line}
-use Rattle.mesh_peers.specs.Lines.{words_of}
-use Rattle.mesh_peers.specs.Seen.{accepted_of}
+use Rattle.mesh_script.specs.NodeLines.{words_of}
+use Rattle.mesh_script.specs.NodeSeen.{accepted_of}
 use Rattle.mesh_router.specs.Logs.{text_log}
 use Rattle.mesh_router.specs.declared.stop.Stop.TheVariants.{Full}
 use Rattle.mesh_router.specs.Routers.{Router}

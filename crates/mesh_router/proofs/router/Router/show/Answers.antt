@@ -6,8 +6,8 @@ use Rattle.mesh_io.specs.Puts.{AppendsPrefix}
 use Rattle.mesh_io.proofs.Writing.{Appends-join, AppendsPrefix-join, AppendsPrefix-more}
 use Rattle.mesh_grammar.specs.Written.{line}
 use Rattle.mesh_text.specs.Tables.{node_text}
-use Rattle.mesh_peers.specs.Lines.{words_of}
-use Rattle.mesh_peers.specs.Seen.{accepted_of}
+use Rattle.mesh_script.specs.NodeLines.{words_of}
+use Rattle.mesh_script.specs.NodeSeen.{accepted_of}
 use Rattle.mesh_router.specs.Logs.{text_log}
 use Rattle.mesh_router.specs.Routers.{Router}
 use Rattle.mesh_router.specs.Lines.{show_outcome}

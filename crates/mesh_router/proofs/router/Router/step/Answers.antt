@@ -1,6 +1,6 @@
 use Rattle.std.proofs.Common.{sym, subst}
-use Rattle.mesh_peers.specs.declared.line.NodeLine.{NodeLine}
-use Rattle.mesh_peers.specs.Seen.{accepted_of}
+use Rattle.mesh_script.specs.declared.node_line.NodeLine.{NodeLine}
+use Rattle.mesh_script.specs.NodeSeen.{accepted_of}
 use Rattle.mesh_router.proofs.Acting.{IsSkipped, skipped}
 use Rattle.mesh_router.proofs.router.Router.step.Goals as goal
 

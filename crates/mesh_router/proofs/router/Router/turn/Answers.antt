@@ -66,17 +66,17 @@ returns-in_err-put_all-in-Err-Idle-clause-turn g c =
     let P : Router → Type 0 = λ r. IsTurnRun (next_turn r) r (g.O.Sink.held c.args.out.now, g.L.Link.sent c.args.link.now) (g.O.Sink.held c.put_all.new.out, g.L.Link.sent c.args.link.now) (router_as p c.turn.new.self near c.self.inside.heard c.self.inside.sent c.self.inside.dropped) c.from_residual-in_err-put_all-in-Err-Idle.result in
     subst P c.self.view_is (told_fault _ _ _ _ _ c.from_residual-in_err-put_all-in-Err-Idle.result q.0 q.1 (subst IsFault (sym q.2) tt) (subst (λ (t : TurnOutcome). AddsPrefix (g.O.Sink.held c.args.out.now, g.L.Link.sent c.args.link.now) (g.O.Sink.held c.put_all.new.out, g.L.Link.sent c.args.link.now) (log_by t)) (sym is) (prefix-text _ _ _ _ idle_line refl c.in_err-put_all-in-Err-Idle.ensures.text)))
 
-pub returns-in_err-put_malformed-in-Err-Malformed-clause-turn : goal.returns-in_err-put_malformed-in-Err-Malformed-clause-turn
-returns-in_err-put_malformed-in-Err-Malformed-clause-turn g c =
+pub returns-in_err-put_malformed-in-Err-Refused-clause-turn : goal.returns-in_err-put_malformed-in-Err-Refused-clause-turn
+returns-in_err-put_malformed-in-Err-Refused-clause-turn g c =
     let p = c.self.inside.peers in
     let node = c.self.inside.node in
     let near = c.self.inside.range in
-    let is = turn_refused p node c.turn.new.self near c.self.inside.heard c.self.inside.sent c.self.inside.dropped c.in-Err-Malformed.from c.in-Err-Malformed.why (subst (λ (e : TurnError). IsTurn c.mesh-2.result.now near node (Err e) c.turn.new.self c.turn.new.out.items) c.in-Err-Malformed.field-0-is c.in-Err-Malformed.ensures.turn) in
-    let text : Nodes → List ℕ = λ m. drop_line m c.in-Err-Malformed.from (refusal_words c.in-Err-Malformed.why) in
-    let q = err_from_is_err_and c.from_residual-in_err-put_malformed-in-Err-Malformed.result c.from_residual-in_err-put_malformed-in-Err-Malformed.ensures.1 in
-    let P : Router → Type 0 = λ r. IsTurnRun (next_turn r) r (g.O.Sink.held c.args.out.now, g.L.Link.sent c.args.link.now) (g.O.Sink.held c.put_malformed.new.out, g.L.Link.sent c.args.link.now) (router_as p c.turn.new.self near c.self.inside.heard c.self.inside.sent (c.self.inside.dropped + 1)) c.from_residual-in_err-put_malformed-in-Err-Malformed.result in
-    let put = subst (λ (l : List ℕ). AppendsPrefix (g.O.Sink.held c.args.out.now) (g.O.Sink.held c.put_malformed.new.out) l) (ap text c.mesh-in-Err-Malformed.ensures.mesh) c.in_err-put_malformed-in-Err-Malformed.ensures.text in
-    subst P c.self.view_is (told_in_part _ _ _ _ _ _ _ c.from_residual-in_err-put_malformed-in-Err-Malformed.result q.0 is (prefix-text _ _ _ _ (text p.mesh) refl put) q.1 (subst IsFault (sym q.2) tt))
+    let is = turn_refused p node c.turn.new.self near c.self.inside.heard c.self.inside.sent c.self.inside.dropped c.in-Err-Refused.from c.in-Err-Refused.why (subst (λ (e : TurnError). IsTurn c.mesh-2.result.now near node (Err e) c.turn.new.self c.turn.new.out.items) c.in-Err-Refused.field-0-is c.in-Err-Refused.ensures.turn) in
+    let text : Nodes → List ℕ = λ m. drop_line m c.in-Err-Refused.from (refusal_words c.in-Err-Refused.why) in
+    let q = err_from_is_err_and c.from_residual-in_err-put_malformed-in-Err-Refused.result c.from_residual-in_err-put_malformed-in-Err-Refused.ensures.1 in
+    let P : Router → Type 0 = λ r. IsTurnRun (next_turn r) r (g.O.Sink.held c.args.out.now, g.L.Link.sent c.args.link.now) (g.O.Sink.held c.put_malformed.new.out, g.L.Link.sent c.args.link.now) (router_as p c.turn.new.self near c.self.inside.heard c.self.inside.sent (c.self.inside.dropped + 1)) c.from_residual-in_err-put_malformed-in-Err-Refused.result in
+    let put = subst (λ (l : List ℕ). AppendsPrefix (g.O.Sink.held c.args.out.now) (g.O.Sink.held c.put_malformed.new.out) l) (ap text c.mesh-in-Err-Refused.ensures.mesh) c.in_err-put_malformed-in-Err-Refused.ensures.text in
+    subst P c.self.view_is (told_in_part _ _ _ _ _ _ _ c.from_residual-in_err-put_malformed-in-Err-Refused.result q.0 is (prefix-text _ _ _ _ (text p.mesh) refl put) q.1 (subst IsFault (sym q.2) tt))
 
 pub returns-in_err-put_stranger-in-Err-Stranger-clause-turn : goal.returns-in_err-put_stranger-in-Err-Stranger-clause-turn
 returns-in_err-put_stranger-in-Err-Stranger-clause-turn g c =
@@ -116,15 +116,15 @@ returns-in_ok-put_all-in-Err-Idle-clause-turn g c =
       adds = adds-text _ _ _ _ idle_line refl c.in_ok-put_all-in-Err-Idle.ensures.text;
     })
 
-pub returns-in_ok-put_malformed-in-Err-Malformed-clause-turn : goal.returns-in_ok-put_malformed-in-Err-Malformed-clause-turn
-returns-in_ok-put_malformed-in-Err-Malformed-clause-turn g c =
+pub returns-in_ok-put_malformed-in-Err-Refused-clause-turn : goal.returns-in_ok-put_malformed-in-Err-Refused-clause-turn
+returns-in_ok-put_malformed-in-Err-Refused-clause-turn g c =
     let p = c.self.inside.peers in
     let node = c.self.inside.node in
     let near = c.self.inside.range in
-    let is = turn_refused p node c.turn.new.self near c.self.inside.heard c.self.inside.sent c.self.inside.dropped c.in-Err-Malformed.from c.in-Err-Malformed.why (subst (λ (e : TurnError). IsTurn c.mesh-2.result.now near node (Err e) c.turn.new.self c.turn.new.out.items) c.in-Err-Malformed.field-0-is c.in-Err-Malformed.ensures.turn) in
-    let text : Nodes → List ℕ = λ m. drop_line m c.in-Err-Malformed.from (refusal_words c.in-Err-Malformed.why) in
+    let is = turn_refused p node c.turn.new.self near c.self.inside.heard c.self.inside.sent c.self.inside.dropped c.in-Err-Refused.from c.in-Err-Refused.why (subst (λ (e : TurnError). IsTurn c.mesh-2.result.now near node (Err e) c.turn.new.self c.turn.new.out.items) c.in-Err-Refused.field-0-is c.in-Err-Refused.ensures.turn) in
+    let text : Nodes → List ℕ = λ m. drop_line m c.in-Err-Refused.from (refusal_words c.in-Err-Refused.why) in
     let P : Router → Type 0 = λ r. IsTurnRun (next_turn r) r (g.O.Sink.held c.args.out.now, g.L.Link.sent c.args.link.now) (g.O.Sink.held c.put_malformed.new.out, g.L.Link.sent c.args.link.now) (router_as p c.turn.new.self near c.self.inside.heard c.self.inside.sent (c.self.inside.dropped + 1)) (Ok true) in
-    let put = subst (λ (l : List ℕ). Appends (g.O.Sink.held c.args.out.now) (g.O.Sink.held c.put_malformed.new.out) l) (ap text c.mesh-in-Err-Malformed.ensures.mesh) c.in_ok-put_malformed-in-Err-Malformed.ensures.text in
+    let put = subst (λ (l : List ℕ). Appends (g.O.Sink.held c.args.out.now) (g.O.Sink.held c.put_malformed.new.out) l) (ap text c.mesh-in-Err-Refused.ensures.mesh) c.in_ok-put_malformed-in-Err-Refused.ensures.text in
     subst P c.self.view_is (told_done _ (router_as p node near c.self.inside.heard c.self.inside.sent c.self.inside.dropped) _ _ _ _ is (adds-text _ _ _ _ (text p.mesh) refl put))
 
 pub returns-in_ok-put_stranger-in-Err-Stranger-clause-turn : goal.returns-in_ok-put_stranger-in-Err-Stranger-clause-turn

@@ -9,7 +9,7 @@ returns-in-Err-Full c = full_act_result _ _ _ _ _ (rw c.in-Err-Full.field-0-is a
 
 pub unreachable-requires : goal.unreachable-requires
 unreachable-requires c =
-    no_refusal c.args.mesh.now c.args.node.now c.turn.new.self c.in-Err-Malformed.field-0-0 c.in-Err-Malformed.field-0-1 c.requires.readable (rw c.in-Err-Malformed.field-0-is at c.in-Err-Malformed.ensures.turn)
+    no_refusal c.args.mesh.now c.args.node.now c.turn.new.self c.in-Err-Refused.field-0-0 c.in-Err-Refused.field-0-1 c.requires.readable (rw c.in-Err-Refused.field-0-is at c.in-Err-Refused.ensures.turn)
 
 pub unreachable-requires-in-Err-Stranger : goal.unreachable-requires-in-Err-Stranger
 unreachable-requires-in-Err-Stranger c =

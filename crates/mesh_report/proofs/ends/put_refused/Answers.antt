@@ -1,0 +1,15 @@
+use Rattle.std.proofs.Common.{refl}
+use Rattle.mesh_report.proofs.Pieces.{three-at-1, three-at-2, three}
+use Rattle.mesh_report.proofs.ends.put_refused.Goals as goal
+
+pub returns-in_err-put_labelled-clause-text : goal.returns-in_err-put_labelled-clause-text
+returns-in_err-put_labelled-clause-text g c =
+    three-at-1 (g.O.Sink.held c.args.out.now) (g.O.Sink.held c.put_labelled.new.out) _ _ _ _ _ c.from_residual.ensures.0 c.in_err-put_labelled.ensures.text refl
+
+pub returns-in_err-put_text-clause-text : goal.returns-in_err-put_text-clause-text
+returns-in_err-put_text-clause-text g c =
+    three-at-2 (g.O.Sink.held c.args.out.now) (g.O.Sink.held c.put_labelled.new.out) (g.O.Sink.held c.put_text.new.out) _ _ _ _ _ c.from_residual-in_err-put_text.ensures.0 c.in_ok-put_labelled.ensures.text c.in_err-put_text.ensures.text refl
+
+pub returns-clause-text : goal.returns-clause-text
+returns-clause-text g c =
+    three (g.O.Sink.held c.args.out.now) (g.O.Sink.held c.put_labelled.new.out) (g.O.Sink.held c.put_text.new.out) (g.O.Sink.held c.put_words.new.out) _ _ _ _ _ c.in_ok-put_labelled.ensures.text c.in_ok-put_text.ensures.text c.put_words.ensures.text refl

@@ -1,0 +1,15 @@
+use Rattle.std.proofs.Common.{refl}
+use Rattle.mesh_report.proofs.Pieces.{three-at-1, three-at-2, three}
+use Rattle.mesh_report.proofs.tables.put_ends.Goals as goal
+
+pub returns-in_err-put_labelled-clause-text : goal.returns-in_err-put_labelled-clause-text
+returns-in_err-put_labelled-clause-text g c =
+    three-at-1 (g.O.Sink.held c.args.out.now) (g.O.Sink.held c.put_labelled.new.out) _ _ _ _ _ c.from_residual.ensures.0 c.in_err-put_labelled.ensures.text refl
+
+pub returns-in_err-put_one-clause-text : goal.returns-in_err-put_one-clause-text
+returns-in_err-put_one-clause-text g c =
+    three-at-2 (g.O.Sink.held c.args.out.now) (g.O.Sink.held c.put_labelled.new.out) (g.O.Sink.held c.put_one.new.out) _ _ _ _ _ c.from_residual-in_err-put_one.ensures.0 c.in_ok-put_labelled.ensures.text c.in_err-put_one.ensures.text refl
+
+pub returns-clause-text : goal.returns-clause-text
+returns-clause-text g c =
+    three (g.O.Sink.held c.args.out.now) (g.O.Sink.held c.put_labelled.new.out) (g.O.Sink.held c.put_one.new.out) (g.O.Sink.held c.put_one-2.new.out) _ _ _ _ _ c.in_ok-put_labelled.ensures.text c.in_ok-put_one.ensures.text c.put_one-2.ensures.text refl
