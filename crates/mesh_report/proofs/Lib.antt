@@ -10,5 +10,5 @@ pub mod Decimals
 pub mod HexBytes
 -- Copies: the lines of copies.
 pub mod Copies
--- Legible: what the texts by bytes are in the definitions' words.
-pub mod Legible
+-- Messages: what the texts by bytes are in the definitions' words.
+pub mod Messages

@@ -17,10 +17,10 @@ use Rattle.std.specs.Borrow.{Bor}
 use Rattle.mesh_base.specs.declared.events.Effect.{Effect}
 use Rattle.mesh_base.specs.declared.events.Took.{Took}
 use Rattle.mesh_meaning.specs.Answers.{IsCastWritten}
-use Rattle.mesh_report.specs.Legible.{IsTookLegible, effect_text}
+use Rattle.mesh_report.specs.Messages.{IsTookLegible, effect_text}
 use Rattle.mesh_report.specs.Nodes.{IsTookOfMesh}
 use Rattle.mesh_report.specs.Packets.{step_lines}
-use Rattle.mesh_report.proofs.Legible.{step_is, took_of_mesh}
+use Rattle.mesh_report.proofs.Messages.{step_is, took_of_mesh}
 use Rattle.mesh_router.specs.Peers.{IsPeer, ArePeers, code_text}
 use Rattle.mesh_router.specs.Routers.{all_below}
 use Rattle.mesh_script.specs.Peers.{PeersSeen, port_of}

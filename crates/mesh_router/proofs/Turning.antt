@@ -27,7 +27,7 @@ use Rattle.aodv_node.specs.declared.answers.TurnDone as done
 use Rattle.mesh_meaning.specs.Packets.{packet_of}
 use Rattle.mesh_meaning.specs.Answers.{cast_in, effect_in, took_in, IsCastWritten, IsPacketInMesh}
 use Rattle.mesh_text.specs.Effects.{took_text, datum_fate, broken_text, cast_text}
-use Rattle.mesh_report.specs.Legible.{IsTookLegible}
+use Rattle.mesh_report.specs.Messages.{IsTookLegible}
 use Rattle.mesh_script.specs.Peers.{PeersSeen}
 use Rattle.mesh_router.specs.declared.stop.Stop.{Stop}
 use Rattle.mesh_router.specs.declared.stop.Stop.TheVariants as stop

@@ -4,6 +4,7 @@ use Rattle.std.proofs.lemmas.Bool.Decides.{nat_tests}
 use Rattle.std.proofs.lemmas.List.{append-nil}
 use Rattle.mesh_base.specs.declared.limits.TheConstants.{MOST_NODES}
 use Rattle.mesh_base.specs.Meshes.{Nodes, IsMesh}
+use Rattle.mesh_grammar.specs.declared.command.Command.{Command}
 use Rattle.mesh_grammar.specs.declared.fault.LineFault.{LineFault}
 use Rattle.mesh_text.specs.Schedule.{AcceptedLine, Nothing, NewNode, Does, Chooses, ShowsNode, ShowsRoute, ShowsFlight, line_of, accepted_shape}
 use Rattle.mesh_text.specs.Ranges.{IsInRange, IsInTime, IsEcho}
@@ -39,7 +40,7 @@ counted_line mesh started line few = by_line (line_of mesh started line) refl
 
 -- ---- the line of what is said
 
-pub line_of_said : (mesh : Nodes) (started : Bool) (line : List ℕ) (said : Option Shape) (r : Result AcceptedLine LineFault) → length mesh ≤ MOST_NODES
+pub line_of_said : (mesh : Nodes) (started : Bool) (line : List ℕ) (said : Option (Shape Command)) (r : Result AcceptedLine LineFault) → length mesh ≤ MOST_NODES
     → seen_shape (Ok said) ≡ shape_of line → r ≡ short_count (accepted_shape mesh started (said_of said))
     → r ≡ line_of mesh started line
 unfolding line_of

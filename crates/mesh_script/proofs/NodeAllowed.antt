@@ -21,11 +21,12 @@ use Rattle.mesh_script.specs.declared.node_command.NodeCommand.{NodeCommand}
 use Rattle.mesh_script.specs.declared.node_command.NodeCommand.TheVariants as command
 use Rattle.mesh_script.specs.declared.limits.TheConstants.{GREATEST_PORT}
 use Rattle.mesh_script.specs.declared.node_line.NodeLine.{NodeLine}
-use Rattle.mesh_script.specs.declared.node_shape.Shape as code
+use Rattle.mesh_script.specs.declared.shape.Shape as code
 use Rattle.mesh_script.specs.NodeCommands.{router_script, shape_of}
 use Rattle.mesh_script.specs.Peers.{PeersSeen, at_port}
 use Rattle.mesh_script.specs.NodeLines.{AcceptedLine, Nothing, Own, Peer, Up, Down, Give, Polls, Turns, Sends, Asks, Shows, after_self, of_other, made_line, in_room, new_self, new_peer, accepted_line, accepted_shape, line_of, words_of, IsNew, IsNamed, IsInRange, IsInTime}
-use Rattle.mesh_script.specs.NodeSeen.{form_of, seen_line, said_of, seen_shape, IsAllowed}
+use Rattle.mesh_script.specs.NodeSeen.{form_of, seen_line, IsAllowed}
+use Rattle.mesh_script.specs.Shapes.{said_of, seen_shape}
 use Rattle.mesh_script.proofs.Said.{word_of, row_of, Said, said}
 use Rattle.mesh_text.proofs.Printed.{is_word}
 
@@ -134,7 +135,7 @@ unfolding Allowed
 allowed p started line (Ok l) few is = subst (Allowed p started) (sym is) (line_allowed p started line few)
 allowed p started line (Err f) few is = tt
 
-pub line_of_said : (p : PeersSeen) (started : Bool) (line : List ℕ) (said : Option code.Shape) (r : Result AcceptedLine LineFault)
+pub line_of_said : (p : PeersSeen) (started : Bool) (line : List ℕ) (said : Option (code.Shape NodeCommand)) (r : Result AcceptedLine LineFault)
     → seen_shape (Ok said) ≡ shape_of line → r ≡ accepted_shape p started (length line) (said_of said) → r ≡ line_of p started line
 unfolding line_of
 line_of_said p started line said r shape is =

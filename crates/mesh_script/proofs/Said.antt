@@ -14,9 +14,10 @@ use Rattle.mesh_grammar.proofs.Readings.{row_found, LineRead, line_read}
 use Rattle.mesh_script.specs.Arguments.{all_spanned_of}
 use Rattle.mesh_script.specs.declared.node_command.NodeCommand.{NodeCommand}
 use Rattle.mesh_script.specs.declared.node_command.NodeCommand.TheVariants as command
-use Rattle.mesh_script.specs.declared.node_shape.Shape as code
+use Rattle.mesh_script.specs.declared.shape.Shape as code
 use Rattle.mesh_script.specs.NodeCommands.{router_script, shape_of}
-use Rattle.mesh_script.specs.NodeSeen.{form_of, EndsIn, IsSaidIn, seen_shape}
+use Rattle.mesh_script.specs.NodeSeen.{form_of, EndsIn, IsSaidIn}
+use Rattle.mesh_script.specs.Shapes.{seen_shape}
 
 abbrev pub word_of : NodeCommand → List ℕ
 word_of command.Own = codes "self"
@@ -108,11 +109,11 @@ ends line word (AddressAndNumber a n) text =
     subst (λ l. length (decimal n) ≤ length l) (sym text) (last_fits (word ++ 32 ∷ dotted_decimal a.address) n)
 ends line word (AddressAndText a t) text = tt
 
-said_shape : (line : List ℕ) (r : Result (Option code.Shape) LineFault) → Said line (seen_shape r) → IfOk r (IsSaidIn (length line))
+said_shape : (line : List ℕ) (r : Result (Option (code.Shape NodeCommand)) LineFault) → Said line (seen_shape r) → IfOk r (IsSaidIn (length line))
 unfolding Said
 said_shape line (Err f) h = tt
 said_shape line (Ok None) h = tt
 said_shape line (Ok (Some s)) h = (h.form, ends line (word_of s.command) (all_spanned_of s.arguments) h.text)
 
-pub said_in : (line : List ℕ) (r : Result (Option code.Shape) LineFault) → seen_shape r ≡ shape_of line → IfOk r (IsSaidIn (length line))
+pub said_in : (line : List ℕ) (r : Result (Option (code.Shape NodeCommand)) LineFault) → seen_shape r ≡ shape_of line → IfOk r (IsSaidIn (length line))
 said_in line r is = said_shape line r (subst (Said line) (sym is) (said line))

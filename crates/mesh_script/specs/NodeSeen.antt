@@ -6,36 +6,17 @@ use Rattle.mesh_grammar.specs.declared.form.Form.{Form}
 use Rattle.mesh_grammar.specs.declared.form.Form.TheVariants as form
 use Rattle.mesh_grammar.specs.Words as words
 use Rattle.mesh_grammar.specs.Forms.{Arguments, AddressAndNumber, AreOfForm}
-use Rattle.mesh_grammar.specs.Scripts as scripts
 use Rattle.mesh_script.specs.Arguments.{all_spanned_of}
 use Rattle.mesh_script.specs.declared.node_command.NodeCommand.{NodeCommand}
 use Rattle.mesh_script.specs.declared.node_command.NodeCommand.TheVariants as command
 use Rattle.mesh_script.specs.declared.limits.TheConstants.{MOST_AT_ONCE, GREATEST_PORT}
-use Rattle.mesh_script.specs.declared.node_shape.Row.{Row}
-use Rattle.mesh_script.specs.declared.node_shape.Shape.{Shape}
+use Rattle.mesh_script.specs.declared.shape.Shape.{Shape}
 use Rattle.mesh_script.specs.declared.node_line.NodeLine.{NodeLine}
 use Rattle.mesh_script.specs.declared.node_line.NodeLine.TheVariants as line
 use Rattle.mesh_script.specs.NodeLines.{AcceptedLine, Nothing, Own, Peer, Up, Down, Give, Polls, Turns, Sends, Asks, Shows, after_self, IsInRange, IsInTime}
 use Rattle.mesh_script.specs.Peers.{PeersSeen}
 
 -- ---- a line by itself
-
--- the definitions' row for the code's row, with its word
-abbrev pub row_with : List ℕ → Row → scripts.Row NodeCommand
-row_with word r = record { command = r.command; word = word; form = r.form }
-
-abbrev pub shape_seen : Shape → scripts.Shape NodeCommand words.SpannedAddr
-shape_seen s = record { command = s.command; arguments = all_spanned_of s.arguments }
-
--- a blank line says nothing
-abbrev pub said_of : Option Shape → Option (scripts.Shape NodeCommand words.SpannedAddr)
-said_of None = None
-said_of (Some s) = Some (shape_seen s)
-
-abbrev pub seen_shape : Result (Option Shape) LineFault
-    → Result (Option (scripts.Shape NodeCommand words.SpannedAddr)) LineFault
-seen_shape (Ok said) = Ok (said_of said)
-seen_shape (Err f) = Err f
 
 -- the form of each command's arguments, as in the table
 abbrev pub form_of : NodeCommand → Form
@@ -57,7 +38,7 @@ EndsIn size others = ⊤
 
 -- what a line of this length says has arguments in its command's form, and a number after an
 -- address fits in the line
-abbrev pub IsSaidIn : ℕ → Option Shape → Type 0
+abbrev pub IsSaidIn : ℕ → Option (Shape NodeCommand) → Type 0
 IsSaidIn size None = ⊤
 IsSaidIn size (Some s) =
     AreOfForm (form_of s.command) (all_spanned_of s.arguments)

@@ -5,6 +5,7 @@
 //! Nothing here takes memory: a line is read as parts of the bytes that it is given.
 #![tactic(auto)]
 
+mod command;
 mod fast;
 mod forms;
 mod limits;
@@ -13,7 +14,6 @@ mod node_command;
 mod node_line;
 mod node_parse;
 mod node_print;
-mod node_shape;
 mod parse;
 mod peers;
 mod print;

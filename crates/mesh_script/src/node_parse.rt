@@ -4,14 +4,15 @@ ghost use Rattle.std.specs.Fmt.{decimal};
 ghost use Rattle.mesh_grammar.specs.Forms.{AreOfForm};
 ghost use Rattle.mesh_script.specs.Arguments.{spanned_of, indices_of};
 ghost use Rattle.mesh_script.specs.NodeLines as lines;
-ghost use Rattle.mesh_script.specs.NodeSeen.{said_of, accepted_of, seen_line, form_of, IsSaidIn, HasSelf, IsAllowed};
+ghost use Rattle.mesh_script.specs.Shapes.{said_of};
+ghost use Rattle.mesh_script.specs.NodeSeen.{accepted_of, seen_line, form_of, IsSaidIn, HasSelf, IsAllowed};
 
 use crate::forms::Arguments;
 use crate::node_command::NodeCommand as Command;
 use crate::node_line::NodeLine;
-use crate::node_shape::{Shape, shape_of};
 use crate::parse::indexed;
 use crate::peers::Peers;
+use crate::shape::{Shape, shape_of};
 use crate::words::SpannedAddr;
 use mesh_base::MOST_NODES;
 use mesh_grammar::{LineFault, Span};
@@ -141,7 +142,7 @@ fn new_peer(
 // What a line of `size` bytes says, with these peers. The shape is borrowed, since it is too large
 // to be moved without need.
 fn line_at<'a>(
-    said: &Option<Shape<'a>>,
+    said: &Option<Shape<'a, Command>>,
     peers: &Peers,
     started: bool,
     size: usize,
@@ -176,7 +177,7 @@ pub fn parse_node_line<'a>(
 {
     // There are at most 200 nodes.
     let _nodes = peers.mesh().len();
-    match &shape_of(peers.mesh(), bytes) {
+    match &shape_of::<Command>(peers.mesh(), bytes) {
         Ok(said) => line_at(said, peers, started, bytes.len()),
         Err(fault) => Err(*fault),
     }

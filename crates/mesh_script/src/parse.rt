@@ -153,7 +153,11 @@ fn new_node(
 }
 
 // What a line says in this mesh. The shape is borrowed: it is too large to be moved without need.
-fn line_at<'a>(said: &Option<Shape<'a>>, mesh: &Mesh, started: bool) -> Result<Line<'a>, LineFault>
+fn line_at<'a>(
+    said: &Option<Shape<'a, Command>>,
+    mesh: &Mesh,
+    started: bool,
+) -> Result<Line<'a>, LineFault>
     ensures { seen_line result
         ≡ short_count (schedule.accepted_shape mesh.now started (said_of said.now)) }
 {
@@ -181,7 +185,7 @@ pub fn parse_line<'a>(bytes: &'a [u8], mesh: &Mesh, started: bool) -> Result<Lin
     if let Some(line) = fast_line(bytes, mesh) {
         return Ok(line);
     }
-    match &shape_of(mesh, bytes) {
+    match &shape_of::<Command>(mesh, bytes) {
         Ok(said) => line_at(said, mesh, started),
         Err(fault) => Err(*fault),
     }

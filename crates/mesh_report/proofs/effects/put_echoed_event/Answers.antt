@@ -3,7 +3,7 @@ use Rattle.mesh_meaning.specs.Events.{event_of, node_of}
 use Rattle.mesh_grammar.specs.Written.{line}
 use Rattle.mesh_text.specs.Lines.{words_of}
 use Rattle.mesh_report.specs.Packets.{done_lines}
-use Rattle.mesh_report.proofs.Legible.{done_is_legible, done_of_mesh, event_is}
+use Rattle.mesh_report.proofs.Messages.{done_is_legible, done_of_mesh, event_is}
 use Rattle.mesh_report.proofs.Pieces.{two, two-at-1}
 use Rattle.mesh_report.proofs.effects.put_echoed_event.Goals as goal
 

@@ -1,5 +1,5 @@
 use Rattle.mesh_meaning.specs.Events.{event_of}
-use Rattle.mesh_report.proofs.Legible.{done_is_legible, done_of_mesh, event_is}
+use Rattle.mesh_report.proofs.Messages.{done_is_legible, done_of_mesh, event_is}
 use Rattle.mesh_report.proofs.Pieces.{three, three-at-1, three-at-2}
 use Rattle.mesh_report.proofs.effects.put_event.Goals as goal
 

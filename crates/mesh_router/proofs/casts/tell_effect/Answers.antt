@@ -2,7 +2,7 @@ use Rattle.std.proofs.Common.{◌≡◌, ℕ, List, length, refl, ap, ◌∙◌,
 use Rattle.mesh_base.specs.Meshes.{Nodes}
 use Rattle.mesh_report.specs.Nodes.{IsTookOfMesh, IsCastOfMesh}
 use Rattle.mesh_report.specs.Packets.{step_lines}
-use Rattle.mesh_report.proofs.Legible.{cast_of_mesh}
+use Rattle.mesh_report.proofs.Messages.{cast_of_mesh}
 use Rattle.mesh_router.specs.Peers.{code_text}
 use Rattle.mesh_router.proofs.Peers.{effect_is, taken_of_mesh}
 use Rattle.std.specs.Prelude.{option_map, IfSome}

@@ -1,7 +1,7 @@
 use Rattle.std.proofs.Common.{◌∙◌, ℕ, List, Ok, Err, refl, subst}
 use Rattle.std.specs.Io.KnownBytes.{Appends}
 use Rattle.mesh_io.specs.Puts.{AppendsPrefix}
-use Rattle.mesh_report.proofs.Legible.{flying_is}
+use Rattle.mesh_report.proofs.Messages.{flying_is}
 use Rattle.std.proofs.lemmas.Result.{err_from_is_err_and}
 use Rattle.mesh_base.specs.Views.{flying_seen}
 use Rattle.mesh_meaning.specs.Packets.{IsWrittenCopy}

@@ -31,7 +31,7 @@ use Rattle.mesh_grammar.specs.Written.{line, label_number}
 use Rattle.mesh_text.specs.Lines.{name_of, hex, event_words}
 use Rattle.mesh_text.specs.Effects.{datum_in, kind_text, took_text, delivery_text, drop_text, datum_fate, set_text, broken_text, cast_text, copies_text, sent_text, outcome_text, outcome_lines, world_effect_text}
 use Rattle.mesh_text.specs.Tables.{flying_text}
-use Rattle.mesh_report.specs.Legible.{IsLegible, IsTookLegible, IsDoneLegible, taken_text, effect_text}
+use Rattle.mesh_report.specs.Messages.{IsLegible, IsTookLegible, IsDoneLegible, taken_text, effect_text}
 use Rattle.mesh_report.specs.Nodes.{IsTookOfMesh, IsCastOfMesh, IsEffectOfMesh, IsDoneOfMesh}
 use Rattle.mesh_report.specs.Packets.{flying_line, datum_of, unless_refused, datum_line, kind_word, took_line, delivery_line, drop_line, fate_lines, turn_lines, taken_lines, cast_line, copy_lines, air_lines, sent_lines, step_lines, done_lines}
 

@@ -1,5 +1,6 @@
--- What an event and a node's step did, if a packet that was taken, and one that was lost, may be
--- any that can be read and names only nodes of the mesh, whoever wrote it.
+-- What an event and a node's step did, if each packet that was taken or lost can be read and names
+-- only nodes of the mesh, whoever wrote it. Nothing that writes asks for this: by it, what is
+-- written of a packet's bytes is the text of the message that they mean.
 use Rattle.std.specs.Prelude.{◌≡◌, ◌<◌, ℕ, List, [], ◌++◌, length, Option, Some, None, ⊤}
 use Rattle.std.specs.Borrow.{Bor}
 use Rattle.mesh_base.specs.Meshes.{Nodes}
