@@ -1,4 +1,4 @@
--- Events one after another: one that is given, or those that the run chooses.
+-- Events one after another: those that the run chooses, or the one of a line.
 use Rattle.std.proofs.Common.{◌≡◌, ℕ, zero, suc, ◌+◌, ◌-◌, ◌<◌, ◌≤◌, Bool, List, [], ◌∷◌, ◌++◌, Option, Some, None, Result, Ok, Err, length, refl, sym, ap, subst, ◌∙◌, arith}
 use Rattle.std.specs.Prelude.{IfSome}
 use Rattle.std.specs.Io.KnownBytes.{Appends}
@@ -17,7 +17,7 @@ use Rattle.mesh_text.specs.Auto.{EventsOutcome, Ended, Full as EventsFull, befor
 use Rattle.mesh_text.specs.Text.{LineOutcome, On, Refused, Full, outcome_by_events, outcome_of_auto, outcome_of_line, text_in}
 use Rattle.mesh_run.specs.declared.stop.Stop.{Stop}
 use Rattle.mesh_run.specs.declared.stop.Stop.TheVariants as stop
-use Rattle.mesh_run.specs.Runs.{output_if, IsStill, IsLineDone, IsLineStopped, outcome_by, IsEventsDone, IsEventsRun, text_of, next_in, events_due}
+use Rattle.mesh_run.specs.Runs.{output_if, IsStill, IsLineDone, IsLineStopped, outcome_by, IsEventsDone, IsEventsRun, text_of}
 use Rattle.mesh_run.proofs.Shown.{shown_none, shown_join, front_join, front_more}
 
 -- ---- how many are left
@@ -28,11 +28,11 @@ one_less most did h = omega arith
 none_left : (most did : ℕ) → most ≤ did → most - did ≡ 0
 none_left most did h = omega arith
 
--- one event is the last where it is given
-one_given : (m : RunState) (e : Event) (o : Outcome) → e ∷ [] ≡ event_then m e o (λ n. [])
-one_given m e Idle = refl
-one_given m e (worlds.Full x field) = refl
-one_given m e (Next w i) = refl
+-- one event by itself
+one_alone : (m : RunState) (e : Event) (o : Outcome) → e ∷ [] ≡ event_then m e o (λ n. [])
+one_alone m e Idle = refl
+one_alone m e (worlds.Full x field) = refl
+one_alone m e (Next w i) = refl
 
 chosen_suc : (k : ℕ) (m : RunState) → events_chosen (suc k) m ≡ choice_then m (pick (world_of m)) (λ n. events_chosen k n)
 unfolding events_chosen
@@ -42,40 +42,20 @@ chosen_zero : (m : RunState) → events_chosen 0 m ≡ []
 unfolding events_chosen
 chosen_zero m = refl
 
-chosen_none : (k : ℕ) (m : RunState) → None ≡ pick (world_of m) → events_chosen k m ≡ []
+-- none is left to be chosen
+pub chosen_none : (k : ℕ) (m : RunState) → None ≡ pick (world_of m) → events_chosen k m ≡ []
 chosen_none zero m h = chosen_zero m
 chosen_none (suc k) m h = chosen_suc k m ∙ ap (λ o. choice_then m o (λ n. events_chosen k n)) (sym h)
 
-due_zero : (given : Option Event) (m : RunState) → events_due given 0 m ≡ []
-unfolding events_due
-due_zero None m = chosen_zero m
-due_zero (Some x) m = refl
-
 -- as many were done as were asked for
-pub due_all : (given : Option Event) (most did : ℕ) (m : RunState) → most ≤ did → events_due given (most - did) m ≡ []
-due_all given most did m h = ap (λ k. events_due given k m) (none_left most did h) ∙ due_zero given m
-
--- none is left to be chosen
-pub due_none : (given : Option Event) (k : ℕ) (m : RunState) → None ≡ next_in given m → events_due given k m ≡ []
-unfolding events_due
-due_none None k m h = chosen_none k m h
-due_none (Some x) k m h = absurd (let other : Some x ≡ None = sym h in let P : ⊥ = cc in P)
+pub chosen_all : (most did : ℕ) (m : RunState) → most ≤ did → events_chosen (most - did) m ≡ []
+chosen_all most did m h = ap (λ k. events_chosen k m) (none_left most did h) ∙ chosen_zero m
 
 -- one more
-pub due_next : (given : Option Event) (most did : ℕ) (m : RunState) (e : Event) → IfSome given (λ _. most ≤ 1) → did < most → Some e ≡ next_in given m
-    → events_due given (most - did) m ≡ event_then m e (outcome_at m e) (λ n. events_due given (most - (did + 1)) n)
-unfolding events_due
-due_next None most did m e one h picked =
+pub chosen_next : (most did : ℕ) (m : RunState) (e : Event) → did < most → Some e ≡ pick (world_of m)
+    → events_chosen (most - did) m ≡ event_then m e (outcome_at m e) (λ n. events_chosen (most - (did + 1)) n)
+chosen_next most did m e h picked =
     ap (λ k. events_chosen k m) (one_less most did h) ∙ chosen_suc (most - (did + 1)) m ∙ ap (λ o. choice_then m o (λ n. events_chosen (most - (did + 1)) n)) (sym picked)
-due_next (Some x) most did m e one h same =
-    let few : most ≤ 1 = one in
-    let last : most - (did + 1) ≡ 0 = omega (arith, few) in
-    let is : Some e ≡ Some x = same in
-    let it : x ≡ e = cc in
-    ap (λ k. events_due (Some x) k m) (one_less most did h)
-    ∙ ap (λ a. a ∷ []) it
-    ∙ one_given m e (outcome_at m e)
-    ∙ ap (λ k. event_then m e (outcome_at m e) (λ n. events_due (Some x) k n)) (sym last)
 
 -- what comes of one event, and then of others
 ran_then : (m : RunState) (e : Event) (o : Outcome) (others : RunState → List Event) → outcome_at m e ≡ o
@@ -100,10 +80,10 @@ then_counts say m n e Idle others a b done next = ap (λ k. suc (length (others 
 then_counts say m n e (worlds.Full x field) others a b done next = absurd (let h : Full [] m e field ≡ On done.text n = done.is in let P : ⊥ = cc in P)
 then_counts say m n e (Next w i) others a b done next = ap (λ k. suc (length (others k))) (sym next)
 
-pub due_counts : (say : Bool) (given : Option Event) (most did : ℕ) (m n : RunState) (e : Event) (a b : Option (List ℕ)) → IfSome given (λ _. most ≤ 1) → did < most → Some e ≡ next_in given m
-    → IsLineDone say (outcome_by m e (outcome_at m e)) n a b → n ≡ next_state m e → length (events_due given (most - did) m) ≡ suc (length (events_due given (most - (did + 1)) n))
-due_counts say given most did m n e a b one h p done next =
-    ap length (due_next given most did m e one h p) ∙ then_counts say m n e (outcome_at m e) (λ x. events_due given (most - (did + 1)) x) a b done next
+pub chosen_counts : (say : Bool) (most did : ℕ) (m n : RunState) (e : Event) (a b : Option (List ℕ)) → did < most → Some e ≡ pick (world_of m)
+    → IsLineDone say (outcome_by m e (outcome_at m e)) n a b → n ≡ next_state m e → length (events_chosen (most - did) m) ≡ suc (length (events_chosen (most - (did + 1)) n))
+chosen_counts say most did m n e a b h p done next =
+    ap length (chosen_next most did m e h p) ∙ then_counts say m n e (outcome_at m e) (λ x. events_chosen (most - (did + 1)) x) a b done next
 
 -- ---- one event, and then the others
 
@@ -192,20 +172,35 @@ then_stops say m n e (worlds.Full x full) others a b t g = full_stops say m n e 
 then_stops say m n e (Next w i) others a b t g = on_stops say m n (next_state m e) (outcome_lines m.mesh e (Next w i)) (others (next_state m e)) a b t g
 
 -- one event more
-pub ran_goes : (say : Bool) (given : Option Event) (most did : ℕ) (m n k : RunState) (e : Event) (a b c : Option (List ℕ)) (r : Result ℕ Stop) → IfSome given (λ _. most ≤ 1) → did < most → Some e ≡ next_in given m
-    → IsLineDone say (outcome_by m e (outcome_at m e)) n a b → IsEventsRun say n (outcome_of_events n (events_due given (most - (did + 1)) n)) k b c r
-    → IsEventsRun say m (outcome_of_events m (events_due given (most - did) m)) k a c r
-ran_goes say given most did m n k e a b c r one h p g q =
+pub ran_goes : (say : Bool) (most did : ℕ) (m n k : RunState) (e : Event) (a b c : Option (List ℕ)) (r : Result ℕ Stop) → did < most → Some e ≡ pick (world_of m)
+    → IsLineDone say (outcome_by m e (outcome_at m e)) n a b → IsEventsRun say n (outcome_of_events n (events_chosen (most - (did + 1)) n)) k b c r
+    → IsEventsRun say m (outcome_of_events m (events_chosen (most - did) m)) k a c r
+ran_goes say most did m n k e a b c r h p g q =
     let P : EventsOutcome → Type 0 = λ ran. IsEventsRun say m ran k a c r in
-    subst P (sym (ap (outcome_of_events m) (due_next given most did m e one h p) ∙ ran_next m e (λ x. events_due given (most - (did + 1)) x)))
-    (then_goes say m n k e (outcome_at m e) (λ x. outcome_of_events x (events_due given (most - (did + 1)) x)) a b c r g q)
+    subst P (sym (ap (outcome_of_events m) (chosen_next most did m e h p) ∙ ran_next m e (λ x. events_chosen (most - (did + 1)) x)))
+    (then_goes say m n k e (outcome_at m e) (λ x. outcome_of_events x (events_chosen (most - (did + 1)) x)) a b c r g q)
 
-pub ran_stops : (say : Bool) (given : Option Event) (most did : ℕ) (m n : RunState) (e : Event) (a b : Option (List ℕ)) (t : Stop) → IfSome given (λ _. most ≤ 1) → did < most → Some e ≡ next_in given m
-    → IsLineStopped say m (outcome_by m e (outcome_at m e)) n a b t → IsEventsRun say m (outcome_of_events m (events_due given (most - did) m)) n a b (Err t)
-ran_stops say given most did m n e a b t one h p g =
+pub ran_stops : (say : Bool) (most did : ℕ) (m n : RunState) (e : Event) (a b : Option (List ℕ)) (t : Stop) → did < most → Some e ≡ pick (world_of m)
+    → IsLineStopped say m (outcome_by m e (outcome_at m e)) n a b t → IsEventsRun say m (outcome_of_events m (events_chosen (most - did) m)) n a b (Err t)
+ran_stops say most did m n e a b t h p g =
     let P : EventsOutcome → Type 0 = λ ran. IsEventsRun say m ran n a b (Err t) in
-    subst P (sym (ap (outcome_of_events m) (due_next given most did m e one h p) ∙ ran_next m e (λ x. events_due given (most - (did + 1)) x)))
-    (then_stops say m n e (outcome_at m e) (λ x. outcome_of_events x (events_due given (most - (did + 1)) x)) a b t g)
+    subst P (sym (ap (outcome_of_events m) (chosen_next most did m e h p) ∙ ran_next m e (λ x. events_chosen (most - (did + 1)) x)))
+    (then_stops say m n e (outcome_at m e) (λ x. outcome_of_events x (events_chosen (most - (did + 1)) x)) a b t g)
+
+-- one event by itself
+alone_is : (m : RunState) (e : Event) → outcome_of_events m (e ∷ []) ≡ done_then m e (outcome_at m e) (λ n. outcome_of_events n [])
+alone_is m e = ap (outcome_of_events m) (one_alone m e (outcome_at m e)) ∙ ran_next m e (λ n. [])
+
+alone_goes : (say : Bool) (m n : RunState) (e : Event) (a b : Option (List ℕ)) → IsLineDone say (outcome_by m e (outcome_at m e)) n a b → IsEventsDone say (outcome_of_events m (e ∷ [])) n a b
+alone_goes say m n e a b g =
+    let P : EventsOutcome → Type 0 = λ ran. IsEventsRun say m ran n a b (Ok 1) in
+    subst P (sym (alone_is m e)) (then_goes say m n n e (outcome_at m e) (λ x. outcome_of_events x []) a b b (Ok 1) g (nothing_more say n [] b refl))
+
+alone_stops : (say : Bool) (m n : RunState) (e : Event) (a b : Option (List ℕ)) (t : Stop) → IsLineStopped say m (outcome_by m e (outcome_at m e)) n a b t
+    → IsEventsRun say m (outcome_of_events m (e ∷ [])) n a b (Err t)
+alone_stops say m n e a b t g =
+    let P : EventsOutcome → Type 0 = λ ran. IsEventsRun say m ran n a b (Err t) in
+    subst P (sym (alone_is m e)) (then_stops say m n e (outcome_at m e) (λ x. outcome_of_events x []) a b t g)
 
 -- ---- the line of an event
 
@@ -217,30 +212,27 @@ still_since m s n e same still = record {
   lines = still.lines ∙ ap (λ x. x.lines) same;
 }
 
-came-does : (m s : RunState) (e : Event) → s ≡ with_world m → outcome_of_line m (Does e) ≡ outcome_by_events (outcome_of_events s (events_due (Some e) 1 s))
-unfolding outcome_of_line events_due
+came-does : (m s : RunState) (e : Event) → s ≡ with_world m → outcome_of_line m (Does e) ≡ outcome_by_events (outcome_of_events s (e ∷ []))
+unfolding outcome_of_line
 came-does m s e same = ap (λ k. outcome_by_events (outcome_of_events k (e ∷ []))) (sym same)
 
 text_by : (ran : EventsOutcome) → text_in (outcome_by_events ran) ≡ text_of ran
 text_by (Ended text n) = refl
 text_by (EventsFull text n e field) = refl
 
--- in what follows `p` is the same state as `n`, once the reference has come back
-pub does_goes : (say : Bool) (m s n p : RunState) (e : Event) (a b : Option (List ℕ)) → s ≡ with_world m → n ≡ p → IsEventsDone say (outcome_of_events s (events_due (Some e) 1 s)) n a b
-    → IsLineDone say (outcome_of_line m (Does e)) (with_line_read p) a b
-does_goes say m s n p e a b same back g = record {
-  text = g.text;
-  is = came-does m s e same ∙ ap outcome_by_events g.is ∙ ap (λ k. On g.text (with_line_read k)) back;
-  grown = g.grown;
-}
+pub does_goes : (say : Bool) (m s n : RunState) (e : Event) (a b : Option (List ℕ)) → s ≡ with_world m → IsLineDone say (outcome_by s e (outcome_at s e)) n a b
+    → IsLineDone say (outcome_of_line m (Does e)) (with_line_read n) a b
+does_goes say m s n e a b same done =
+    let g = alone_goes say s n e a b done in
+    record { text = g.text; is = came-does m s e same ∙ ap outcome_by_events g.is; grown = g.grown }
 
-does_front : (say : Bool) (m s : RunState) (e : Event) (a b : Option (List ℕ)) → s ≡ with_world m → AppendsPrefix a b (output_if say (text_of (outcome_of_events s (events_due (Some e) 1 s))))
+does_front : (say : Bool) (m s : RunState) (e : Event) (a b : Option (List ℕ)) → s ≡ with_world m → AppendsPrefix a b (output_if say (text_of (outcome_of_events s (e ∷ []))))
     → AppendsPrefix a b (output_if say (text_in (outcome_of_line m (Does e))))
 does_front say m s e a b same g =
     let P : List ℕ → Type 0 = λ l. AppendsPrefix a b (output_if say l) in
-    subst P (sym (ap text_in (came-does m s e same) ∙ text_by (outcome_of_events s (events_due (Some e) 1 s)))) g
+    subst P (sym (ap text_in (came-does m s e same) ∙ text_by (outcome_of_events s (e ∷ [])))) g
 
-does_stopped : (say : Bool) (m s n : RunState) (e : Event) (a b : Option (List ℕ)) (t : Stop) → s ≡ with_world m → IsEventsRun say s (outcome_of_events s (events_due (Some e) 1 s)) n a b (Err t)
+does_stopped : (say : Bool) (m s n : RunState) (e : Event) (a b : Option (List ℕ)) (t : Stop) → s ≡ with_world m → IsEventsRun say s (outcome_of_events s (e ∷ [])) n a b (Err t)
     → IsLineStopped say m (outcome_of_line m (Does e)) n a b t
 does_stopped say m s n e a b (stop.BadLine f) same g = absurd g
 does_stopped say m s n e a b (stop.Full event node field) same g = record {
@@ -253,10 +245,9 @@ does_stopped say m s n e a b (stop.Full event node field) same g = record {
 does_stopped say m s n e a b stop.WriteFault same g = does_front say m s e a b same g
 does_stopped say m s n e a b stop.NoMemory same g = does_front say m s e a b same g
 
-pub does_stops : (say : Bool) (m s n p : RunState) (e : Event) (a b : Option (List ℕ)) (t : Stop) → s ≡ with_world m → n ≡ p → IsEventsRun say s (outcome_of_events s (events_due (Some e) 1 s)) n a b (Err t)
-    → IsLineStopped say m (outcome_of_line m (Does e)) p a b t
-does_stops say m s n p e a b t same back g =
-    subst (λ (x : RunState). IsLineStopped say m (outcome_of_line m (Does e)) x a b t) back (does_stopped say m s n e a b t same g)
+pub does_stops : (say : Bool) (m s n : RunState) (e : Event) (a b : Option (List ℕ)) (t : Stop) → s ≡ with_world m → IsLineStopped say s (outcome_by s e (outcome_at s e)) n a b t
+    → IsLineStopped say m (outcome_of_line m (Does e)) n a b t
+does_stops say m s n e a b t same g = does_stopped say m s n e a b t same (alone_stops say s n e a b t g)
 
 -- ---- the line of chosen events
 
@@ -340,13 +331,3 @@ pub auto_stops : (say : Bool) (m s n : RunState) (count : ℕ) (a b c : Option (
     → IsLineStopped say m (outcome_of_line m (Chooses count)) n a c t
 auto_stops say m s n count a b c t same p q =
     line_stops say m s (outcome_of_line m (Chooses count)) (line (words_of m.mesh (Chooses count))) _ (outcome_of_events s (events_chosen count s)) n a b c t same (came-chooses m s count _ same refl) p q
-
--- where none is given, all are chosen
-pub chosen_ran : (say : Bool) (s m n : RunState) (count : ℕ) (a b : Option (List ℕ)) (r : Result ℕ Stop) → s ≡ m → IsEventsRun say s (outcome_of_events s (events_due None count s)) n a b r
-    → IsEventsRun say m (outcome_of_events m (events_chosen count m)) n a b r
-unfolding events_due
-chosen_ran say s m n count a b r same g = subst (λ (x : RunState). IsEventsRun say x (outcome_of_events x (events_chosen count x)) n a b r) same g
-
-pub chosen_many : (s m : RunState) (count did : ℕ) → s ≡ m → did ≡ length (events_due None count s) → did ≡ length (events_chosen count m)
-unfolding events_due
-chosen_many s m count did same is = is ∙ ap (λ x. length (events_chosen count x)) same

@@ -1,17 +1,18 @@
 -- The states that a line goes through before it is counted.
 use Rattle.std.proofs.Common.{◌≡◌, inr, ℕ, zero, suc, ◌+◌, ◌-◌, ◌<◌, ◌≤◌, Bool, is_some, List, [], ◌∷◌, take, Option, None, Some, Result, Ok, Err, refl, sym, ap, subst, ◌∙◌}
-use Rattle.std.specs.Prelude.{OnErr, IfSome}
+use Rattle.std.specs.Prelude.{OnErr}
 use Rattle.mesh_grammar.specs.declared.fault.LineFault.{LineFault}
 use Rattle.mesh_shell.specs.Pieces.{Whole}
 use Rattle.mesh_model.specs.Worlds as worlds
 use Rattle.mesh_model.specs.Worlds.{Event, Outcome, Idle, Next}
-use Rattle.mesh_text.specs.Schedule.{RunState, AcceptedLine, Chooses, line_of, with_world, next_state, outcome_at}
+use Rattle.mesh_model.specs.Choices.{pick}
+use Rattle.mesh_text.specs.Schedule.{RunState, AcceptedLine, Chooses, line_of, with_world, next_state, outcome_at, world_of}
 use Rattle.mesh_text.specs.Text.{On, Full}
 use Rattle.mesh_text.specs.Auto.{event_then, events_chosen}
 use Rattle.mesh_text.specs.Runs.{events_of_line, events_read, events_of_piece, run_state_after}
 use Rattle.mesh_run.specs.declared.stop.Stop.{Stop}
-use Rattle.mesh_run.specs.Runs.{IsLineDone, IsReached, IsOnTheWay, outcome_by, line_outcome_at, next_in, events_due}
-use Rattle.mesh_run.proofs.Chosen.{due_next}
+use Rattle.mesh_run.specs.Runs.{IsLineDone, IsReached, IsOnTheWay, outcome_by, line_outcome_at}
+use Rattle.mesh_run.proofs.Chosen.{chosen_next}
 
 -- ---- none of the events, one, and one more
 
@@ -56,27 +57,20 @@ then_first m k e (worlds.Full x field) others way = way
 then_first m k e (Next w i) others way = reached_longer m k e (others (next_state m e)) way
 
 -- one was done, and then others
-pub way_goes : (say : Bool) (given : Option Event) (most did : ℕ) (m n k : RunState) (e : Event) (a b : Option (List ℕ)) → IfSome given (λ _. most ≤ 1) → did < most → Some e ≡ next_in given m
-    → IsLineDone say (line_outcome_at m e) n a b → n ≡ next_state m e → IsReached n (events_due given (most - (did + 1)) n) k → IsReached m (events_due given (most - did) m) k
-way_goes say given most did m n k e a b one h next done after way =
-    subst (λ l. IsReached m l k) (sym (due_next given most did m e one h next)) (then_on say m n k e (outcome_at m e) (λ s. events_due given (most - (did + 1)) s) a b done after way)
+pub way_goes : (say : Bool) (most did : ℕ) (m n k : RunState) (e : Event) (a b : Option (List ℕ)) → did < most → Some e ≡ pick (world_of m)
+    → IsLineDone say (line_outcome_at m e) n a b → n ≡ next_state m e → IsReached n (events_chosen (most - (did + 1)) n) k → IsReached m (events_chosen (most - did) m) k
+way_goes say most did m n k e a b h next done after way =
+    subst (λ l. IsReached m l k) (sym (chosen_next most did m e h next)) (then_on say m n k e (outcome_at m e) (λ s. events_chosen (most - (did + 1)) s) a b done after way)
 
 -- the next one was not done, or not written
-pub way_stops : (given : Option Event) (most did : ℕ) (m k : RunState) (e : Event) → IfSome given (λ _. most ≤ 1) → did < most → Some e ≡ next_in given m → IsReached m (e ∷ []) k → IsReached m (events_due given (most - did) m) k
-way_stops given most did m k e one h next way =
-    subst (λ l. IsReached m l k) (sym (due_next given most did m e one h next)) (then_first m k e (outcome_at m e) (λ s. events_due given (most - (did + 1)) s) way)
-
--- where none is given, all are chosen
-pub chosen_way : (s m n k : RunState) (count : ℕ) → s ≡ m → n ≡ k → IsReached s (events_due None count s) n → IsReached m (events_chosen count m) k
-unfolding events_due
-chosen_way s m n k count same back way =
-    subst (λ (x : RunState). IsReached m (events_chosen count m) x) back (subst (λ (x : RunState). IsReached x (events_chosen count x) n) same way)
+pub way_stops : (most did : ℕ) (m k : RunState) (e : Event) → did < most → Some e ≡ pick (world_of m) → IsReached m (e ∷ []) k → IsReached m (events_chosen (most - did) m) k
+way_stops most did m k e h next way =
+    subst (λ l. IsReached m l k) (sym (chosen_next most did m e h next)) (then_first m k e (outcome_at m e) (λ s. events_chosen (most - (did + 1)) s) way)
 
 -- ---- a line
 
-pub way_of_event : (m s n k : RunState) (e : Event) → s ≡ with_world m → n ≡ k → IsReached s (events_due (Some e) 1 s) n → IsOnTheWay m (e ∷ []) k
-unfolding events_due
-way_of_event m s n k e same back way = inr (subst (λ (x : RunState). IsReached (with_world m) (e ∷ []) x) back (subst (λ x. IsReached x (e ∷ []) n) same way))
+pub way_of_event : (m s n : RunState) (e : Event) → s ≡ with_world m → IsReached s (e ∷ []) n → IsOnTheWay m (e ∷ []) n
+way_of_event m s n e same way = inr (subst (λ x. IsReached x (e ∷ []) n) same way)
 
 pub way_of_choices : (m s n : RunState) (count : ℕ) → s ≡ with_world m → IsReached s (events_chosen count s) n → IsOnTheWay m (events_of_line m (Chooses count)) n
 way_of_choices m s n count same way = inr (subst (λ k. IsReached k (events_chosen count k) n) same way)

@@ -1,6 +1,6 @@
 -- What is written and answered for one line, for one event, and for events that were chosen. A text
 -- is written only if `say` is true.
-use Rattle.std.specs.Prelude.{ℕ, zero, suc, ◌≡◌, ◌≤◌, ◌⊎◌, List, [], ◌∷◌, take, Bool, if◌then◌else◌, Option, Some, None, Result, Ok, Err, MatchResult, IsSomeAnd, length}
+use Rattle.std.specs.Prelude.{ℕ, ◌≡◌, ◌≤◌, ◌⊎◌, List, [], ◌∷◌, take, Bool, if◌then◌else◌, Option, Some, Result, Ok, Err, MatchResult, length}
 use Rattle.std.specs.Io.KnownBytes.{Appends, Keeps}
 use Rattle.mesh_base.specs.declared.events.Full as full
 use Rattle.mesh_io.specs.Puts.{AppendsPrefix}
@@ -13,9 +13,9 @@ use Rattle.mesh_grammar.specs.declared.fault.BadWhy.TheVariants.{Fault}
 use Rattle.mesh_base.specs.Meshes.{Nodes}
 use Rattle.mesh_base.specs.declared.limits.TheConstants.{LONGEST_LINE}
 use Rattle.mesh_text.specs.Lines.{words_of}
-use Rattle.mesh_text.specs.Schedule.{RunState, AcceptedLine, Does, ShowsNode, ShowsRoute, ShowsFlight, with_world, with_line_read, outcome_at, next_state, world_of}
+use Rattle.mesh_text.specs.Schedule.{RunState, AcceptedLine, ShowsNode, ShowsRoute, ShowsFlight, with_world, with_line_read, outcome_at, next_state, world_of}
 use Rattle.mesh_text.specs.Effects.{outcome_lines}
-use Rattle.mesh_text.specs.Auto.{EventsOutcome, Ended, Full as EventsFull, events_chosen}
+use Rattle.mesh_text.specs.Auto.{EventsOutcome, Ended, Full as EventsFull}
 use Rattle.mesh_text.specs.Runs.{run_state_after}
 use Rattle.mesh_run.specs.RunStates.{IsAnswered}
 use Rattle.mesh_text.specs.Text.{LineOutcome, On, Refused, Full, text_in}
@@ -148,12 +148,7 @@ IsEventsRun say m ran n before now (Err stop.WriteFault) =
 IsEventsRun say m ran n before now (Err stop.NoMemory) =
     AppendsPrefix before now (output_if say (text_of ran))
 
--- ---- an event that is given, or those that a run chooses
-
--- the event that comes next: the one that is given, or else the one that the run chooses
-abbrev pub next_in : Option Event → RunState → Option Event
-next_in None m = pick (world_of m)
-next_in (Some e) m = Some e
+-- ---- events that a run chooses
 
 -- two events were done, one after the other, each as the run chooses it
 pub record AreTwoDone (m n : RunState) : Type 0 where
@@ -164,14 +159,3 @@ pub record AreTwoDone (m n : RunState) : Type 0 where
   pub second : Event
   pub next : pick (world_of between) ≡ Some second
   pub ends : IsAnswered between second n
-
--- at most this many events from a state on: the one that is given, once, or else those that the run
--- chooses
-unfoldable pub events_due : Option Event → ℕ → RunState → List Event
-events_due None most m = events_chosen most m
-events_due (Some e) zero m = []
-events_due (Some e) (suc most) m = e ∷ []
-
--- an event is given, and these bytes are those that its line is written back as
-abbrev pub IsLineOfGiven : Nodes → Option Event → List ℕ → Type 0
-IsLineOfGiven mesh given bytes = IsSomeAnd given (λ e. IsLineOf mesh (Does e) bytes)

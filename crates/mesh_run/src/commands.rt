@@ -19,7 +19,7 @@ ghost use Rattle.mesh_run.specs.Stops.{answer_of, event_stop_of};
 ghost use Rattle.mesh_run.specs.Causes.{HasStopCause};
 ghost use Rattle.mesh_run.specs.Runs.{output_if, line_outcome_at, IsLineOf, IsLineRun, IsUncountedRun, IsReached, IsOnTheWay};
 
-use crate::auto::{Task, do_auto, do_events};
+use crate::auto::do_auto;
 use crate::point::Point;
 use crate::show::{Shown, do_show};
 use crate::stop::{EventStop, Stop};
@@ -139,6 +139,7 @@ fn do_node<S: Steps, O: Sink>(
 }
 
 // Does an allowed line other than an event's, and writes its text if `say`.
+#[inline(never)]
 #[tactic(auto, unfolding(mesh_text::specs::Text::outcome_of_line))]
 fn do_rest<'a, S: Steps, O: Sink>(
     alloc: Global,
@@ -199,22 +200,8 @@ fn do_uncounted<'a, S: Steps, O: Sink>(
         return Ok(());
     };
     at.state.begin(alloc, &line)?;
-    let mut task = Task {
-        at: &mut *at,
-        given: Some(event),
-        bytes: Some(bytes),
-        count: 1,
-    };
-    let ran = do_events(alloc, &mut task, say, out);
-    // For the proof: `at` is the state as the event has left it.
-    let Task {
-        at: _at,
-        given: _,
-        bytes: _,
-        count: _,
-    } = task;
-    if let Err(stop) = ran {
-        return Err(stop);
+    if let Err(stop) = do_event(alloc, at, Some(bytes), &event, say, out) {
+        return Err(stop.of_event(event));
     }
     Ok(())
 }

@@ -7,9 +7,9 @@ use Rattle.std.proofs.lemmas.Result.{err_from_is_err_and}
 use Rattle.mesh_io.specs.Puts.{AppendsPrefix}
 use Rattle.mesh_run.specs.Runs.{IsLineDone, IsLineStopped, IsReached}
 use Rattle.mesh_run.proofs.Shown.{echoed, unsaid_none, loud_whole, loud_front}
-use Rattle.mesh_run.proofs.Ways.{chosen_way, err_of, reached_none}
+use Rattle.mesh_run.proofs.Ways.{err_of, reached_none}
 use Rattle.mesh_run.proofs.Begun.{started_same}
-use Rattle.mesh_run.proofs.Chosen.{chosen_ran, chosen_many, auto_goes, auto_front, auto_end_front, auto_stops}
+use Rattle.mesh_run.proofs.Chosen.{auto_goes, auto_front, auto_end_front, auto_stops}
 use Rattle.mesh_run.proofs.auto.do_auto.Goals as goal
 
 pub returns-in_err-say_echo-clause-comes : goal.returns-in_err-say_echo-clause-comes
@@ -26,43 +26,24 @@ returns-in_err-say_echo-clause-way g c =
 pub returns-in-Err-clause-comes : goal.returns-in-Err-clause-comes
 returns-in-Err-clause-comes g c =
     let P : List ℕ → Type 0 = λ l. Appends (g.O.Sink.held c.args.out.now) (g.O.Sink.held c.say_echo.new.out) l in
-    let ran = chosen_ran c.args.say c.args.at.now c.args.at.now c.do_events-ran.new.task.at.now c.args.count _ _ (Err c.in-Err.stop) refl c.in-Err.ensures.ran in
-    subst (λ (n : RunState). IsLineStopped c.args.say c.args.at.now (outcome_of_line c.args.at.now (Chooses c.args.count)) n (g.O.Sink.held c.args.out.now) (g.O.Sink.held c.do_events-ran.new.out) c.in-Err.stop)
-    (search rules)
-    (auto_stops c.args.say c.args.at.now c.args.at.now c.do_events-ran.new.task.at.now c.args.count _ (g.O.Sink.held c.say_echo.new.out) _ c.in-Err.stop (started_same c.args.at.now c.requires.started)
-    (subst P (echoed c.args.say c.args.bytes.now _ (λ loud. (c.requires.echo loud).1)) c.in_ok-say_echo.ensures.text) ran)
+    auto_stops c.args.say c.args.at.now c.args.at.now c.do_events.new.at c.args.count _ (g.O.Sink.held c.say_echo.new.out) _ c.in-Err.stop (started_same c.args.at.now c.requires.started)
+    (subst P (echoed c.args.say c.args.bytes.now _ (λ loud. (c.requires.echo loud).1)) c.in_ok-say_echo.ensures.text) c.in-Err.ensures.ran
 
 pub returns-then-not-say-clause-comes : goal.returns-then-not-say-clause-comes
 returns-then-not-say-clause-comes g c =
     let P : List ℕ → Type 0 = λ l. Appends (g.O.Sink.held c.args.out.now) (g.O.Sink.held c.say_echo.new.out) l in
-    let many = chosen_many c.args.at.now c.args.at.now c.args.count c.in-Ok.did refl c.in-Ok.ensures.did in
-    let ran = chosen_ran c.args.say c.args.at.now c.args.at.now c.do_events-ran.new.task.at.now c.args.count _ _ (Ok c.in-Ok.did) refl c.in-Ok.ensures.ran in
-    subst (λ (n : RunState). IsLineDone c.args.say (outcome_of_line c.args.at.now (Chooses c.args.count)) (with_line_read n) (g.O.Sink.held c.args.out.now) (g.O.Sink.held c.do_events-ran.new.out))
-    (search rules)
-    (auto_goes c.args.say c.args.at.now c.args.at.now c.do_events-ran.new.task.at.now _ c.args.count c.in-Ok.did _ (g.O.Sink.held c.say_echo.new.out) (g.O.Sink.held c.do_events-ran.new.out) _ (started_same c.args.at.now c.requires.started) many
-    (subst P (echoed c.args.say c.args.bytes.now _ (λ loud. (c.requires.echo loud).1)) c.in_ok-say_echo.ensures.text) ran (unsaid_none c.args.say (auto_end c.in-Ok.did) _ c.if-not-say.true) refl)
+    auto_goes c.args.say c.args.at.now c.args.at.now c.do_events.new.at _ c.args.count c.in-Ok.did _ (g.O.Sink.held c.say_echo.new.out) (g.O.Sink.held c.do_events.new.out) _ (started_same c.args.at.now c.requires.started) c.in-Ok.ensures.did
+    (subst P (echoed c.args.say c.args.bytes.now _ (λ loud. (c.requires.echo loud).1)) c.in_ok-say_echo.ensures.text) c.in-Ok.ensures.ran (unsaid_none c.args.say (auto_end c.in-Ok.did) _ c.if-not-say.true) refl
 
 pub returns-in_err-put_auto_end-clause-comes : goal.returns-in_err-put_auto_end-clause-comes
 returns-in_err-put_auto_end-clause-comes g c =
     let p = err_from_is_err_and c.from_residual-in_err-put_auto_end.result c.from_residual-in_err-put_auto_end.ensures.1 in
     let P : List ℕ → Type 0 = λ l. Appends (g.O.Sink.held c.args.out.now) (g.O.Sink.held c.say_echo.new.out) l in
-    let many = chosen_many c.args.at.now c.args.at.now c.args.count c.in-Ok.did refl c.in-Ok.ensures.did in
-    let ran = chosen_ran c.args.say c.args.at.now c.args.at.now c.do_events-ran.new.task.at.now c.args.count _ _ (Ok c.in-Ok.did) refl c.in-Ok.ensures.ran in
-    rw (p.1, p.2) (auto_end_front c.args.say c.args.at.now c.args.at.now c.do_events-ran.new.task.at.now c.args.count _ _ (g.O.Sink.held c.say_echo.new.out) (g.O.Sink.held c.do_events-ran.new.out) _ (started_same c.args.at.now c.requires.started) many
-    (subst P (echoed c.args.say c.args.bytes.now _ (λ loud. (c.requires.echo loud).1)) c.in_ok-say_echo.ensures.text) ran (loud_front c.args.say _ _ _ c.if-not-say.false c.in_err-put_auto_end.ensures.text))
+    rw (p.1, p.2) (auto_end_front c.args.say c.args.at.now c.args.at.now c.do_events.new.at c.args.count _ _ (g.O.Sink.held c.say_echo.new.out) (g.O.Sink.held c.do_events.new.out) _ (started_same c.args.at.now c.requires.started) c.in-Ok.ensures.did
+    (subst P (echoed c.args.say c.args.bytes.now _ (λ loud. (c.requires.echo loud).1)) c.in_ok-say_echo.ensures.text) c.in-Ok.ensures.ran (loud_front c.args.say _ _ _ c.if-not-say.false c.in_err-put_auto_end.ensures.text))
 
 pub returns-clause-comes : goal.returns-clause-comes
 returns-clause-comes g c =
     let P : List ℕ → Type 0 = λ l. Appends (g.O.Sink.held c.args.out.now) (g.O.Sink.held c.say_echo.new.out) l in
-    let many = chosen_many c.args.at.now c.args.at.now c.args.count c.in-Ok.did refl c.in-Ok.ensures.did in
-    let ran = chosen_ran c.args.say c.args.at.now c.args.at.now c.do_events-ran.new.task.at.now c.args.count _ _ (Ok c.in-Ok.did) refl c.in-Ok.ensures.ran in
-    auto_goes c.args.say c.args.at.now c.args.at.now c.do_events-ran.new.task.at.now _ c.args.count c.in-Ok.did _ (g.O.Sink.held c.say_echo.new.out) (g.O.Sink.held c.do_events-ran.new.out) _ (started_same c.args.at.now c.requires.started) many
-    (subst P (echoed c.args.say c.args.bytes.now _ (λ loud. (c.requires.echo loud).1)) c.in_ok-say_echo.ensures.text) ran (loud_whole c.args.say _ _ _ c.if-not-say.false c.in_ok-put_auto_end.ensures.text) (search rules)
-
-pub returns-in-Err-clause-way : goal.returns-in-Err-clause-way
-returns-in-Err-clause-way g c = chosen_way c.args.at.now c.args.at.now c.do_events-ran.new.task.at.now _ c.args.count refl (search rules) c.in-Err.ensures.way
-
-pub returns-in_err-put_auto_end-clause-way : goal.returns-in_err-put_auto_end-clause-way
-returns-in_err-put_auto_end-clause-way g c =
-    err_of c.from_residual-in_err-put_auto_end.result
-    (chosen_way c.args.at.now c.args.at.now c.do_events-ran.new.task.at.now _ c.args.count refl (search rules) c.in-Ok.ensures.way)
+    auto_goes c.args.say c.args.at.now c.args.at.now c.do_events.new.at _ c.args.count c.in-Ok.did _ (g.O.Sink.held c.say_echo.new.out) (g.O.Sink.held c.do_events.new.out) _ (started_same c.args.at.now c.requires.started) c.in-Ok.ensures.did
+    (subst P (echoed c.args.say c.args.bytes.now _ (λ loud. (c.requires.echo loud).1)) c.in_ok-say_echo.ensures.text) c.in-Ok.ensures.ran (loud_whole c.args.say _ _ _ c.if-not-say.false c.in_ok-put_auto_end.ensures.text) refl
