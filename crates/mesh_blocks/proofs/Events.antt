@@ -102,11 +102,6 @@ by_done m e mesh x w (done.Heard from to) packet = refl
 by_done m e mesh x w (done.Lost flying) packet = refl
 by_done m e mesh x w (done.Doubled id to parcel) packet = refl
 
--- an answer in a state that is the same as this
-pub answer_seen : (s m n : RunState) (e : Event) (d : Done) (packet : List ℕ) (r : Result Done StepError) → s ≡ m → r ≡ Ok d → IfOk r (λ x. IsAnswer s e x n packet) → IsAnswer m e d n packet
-answer_seen s m n e d packet r same is answer =
-    subst (λ (k : RunState). IsAnswer k e d n packet) same (subst (λ (x : Result Done StepError). IfOk x (λ y. IsAnswer s e y n packet)) is answer)
-
 -- the lines of an event, and what stands below it
 abbrev pub watched_lines : Below → RunState → Event → List ℕ
 watched_lines form m e = outcome_lines m.mesh e (outcome_at m e) ++ below_text form m e

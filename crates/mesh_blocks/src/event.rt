@@ -181,23 +181,16 @@ pub fn do_event<'a, O: Sink>(
 {
     keep_block(&at.state, below, &event, drafts)?;
     let state = &mut at.state;
-    let answer = state.step_made(alloc, &event, &mut at.packet);
-    match &answer {
-        Ok(done) => {
-            match put_watched(
-                &at.state, below, bytes, &event, done, &at.packet, drafts, out,
-            ) {
-                Ok(()) => Ok(()),
-                Err(Unwritten::WriteFault) => Err(Stop::WriteFault),
-                Err(Unwritten::NoMemory) => Err(Stop::NoMemory),
-            }
-        }
-        Err(StepError::Full { node, field }) => Err(Stop::Full {
-            event,
-            node: *node,
-            field: *field,
-        }),
-        Err(StepError::NoMemory) => Err(Stop::NoMemory),
+    match state.step_counted(alloc, &event, &mut at.packet, true, &mut at.done) {
+        Ok(()) => {}
+        Err(StepError::Full { node, field }) => return Err(Stop::Full { event, node, field }),
+        Err(StepError::NoMemory) => return Err(Stop::NoMemory),
+    }
+    let (state, packet) = (&at.state, &at.packet);
+    match put_watched(state, below, bytes, &event, &at.done, packet, drafts, out) {
+        Ok(()) => Ok(()),
+        Err(Unwritten::WriteFault) => Err(Stop::WriteFault),
+        Err(Unwritten::NoMemory) => Err(Stop::NoMemory),
     }
 }
 

@@ -163,13 +163,6 @@ other_leads m n (ShowsNode x) t does chooses is = led_by m (with_line_read (with
 other_leads m n (ShowsRoute x d) t does chooses is = led_by m (with_line_read (with_world m)) n (record { lines = refl; steps = refl; copies = λ few. record { some = few.some; few = few.few } }) (on_is _ t _ n is)
 other_leads m n ShowsFlight t does chooses is = led_by m (with_line_read (with_world m)) n (record { lines = refl; steps = refl; copies = λ few. record { some = few.some; few = few.few } }) (on_is _ t _ n is)
 
--- ---- an answer
-
--- an answer in a state that is the same as this
-pub answer_seen : (s m n : schedule.RunState) (e : Event) (d : Done) (packet : List ℕ) (r : Result Done StepError) → s ≡ m → r ≡ Ok d → IfOk r (λ x. IsAnswer s e x n packet) → IsAnswer m e d n packet
-answer_seen s m n e d packet r same is answer =
-    subst (λ (k : schedule.RunState). IsAnswer k e d n packet) same (subst (λ (x : Result Done StepError). IfOk x (λ y. IsAnswer s e y n packet)) is answer)
-
 -- ---- a line with an event, as it goes
 
 abbrev pub given_outcome : Rates → schedule.RunState → Event → Channel → LineOutcome

@@ -45,11 +45,6 @@ IsLeftBehind c (Some e) k =
 
 -- ---- one event
 
--- whether an event was done, without what it did
-abbrev pub without_value : {T : Type 0} → Result T Stop → Result (Unit {0}) Stop
-without_value (Ok done) = Ok tt
-without_value (Err stop) = Err stop
-
 -- the same, in the form of an answer for several events, whose number is left out
 abbrev pub counted_of : {T : Type 0} → Result T Stop → Result ℕ Stop
 counted_of (Ok done) = Ok 0

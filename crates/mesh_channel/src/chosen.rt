@@ -19,7 +19,7 @@ use crate::channeled::Channeled;
 use crate::choice::next_choice;
 use crate::event::{after_chosen, do_event};
 use crate::until::{LAST_TICK, MOST_CHOSEN, Until};
-use mesh_base::Event;
+use mesh_base::{Done, Event};
 use mesh_io::Sink;
 use mesh_run::Stop;
 use mesh_world::Steps;
@@ -86,10 +86,10 @@ fn do_events<O: Sink>(
         let Some(event) = choose(at, until, did) else {
             return Ok(());
         };
-        let done = match do_event(at, None, event, out) {
-            Ok(done) => done,
-            Err(stop) => return Err(stop),
-        };
+        let mut done = Done::Idle;
+        if let Err(stop) = do_event(at, None, event, &mut done, out) {
+            return Err(stop);
+        }
         after_chosen(&mut at.channel, &at.rates, &done)?;
         did += 1;
     }

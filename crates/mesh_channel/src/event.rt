@@ -17,7 +17,7 @@ ghost use Rattle.mesh_run.specs.Outputs.{says_lines};
 ghost use Rattle.mesh_run.specs.Causes.{HasStopCause};
 ghost use Rattle.mesh_run.specs.Runs.{output_if, line_outcome_at, IsLineOf, IsLineRun};
 ghost use Rattle.mesh_fates.specs.Channels as channels;
-ghost use Rattle.mesh_channel.specs.RunStates.{without_value, decided_in_air, HasNumbers, HasAnswer, IsAnswerOf};
+ghost use Rattle.mesh_channel.specs.RunStates.{decided_in_air, HasNumbers, HasAnswer, IsAnswerOf};
 ghost use Rattle.mesh_channel.specs.Room.{HasFewCopies};
 ghost use Rattle.mesh_base.specs.Members.{member_list};
 
@@ -53,13 +53,14 @@ fn say_if<O: Sink>(
 }
 
 /// Does an event once the run has started and, if `at.say` asks for it, writes it: as its line was
-/// read, if it has one.
+/// read, if it has one. What came of it is left in `done`.
 pub fn do_event<'a, O: Sink>(
     at: &mut Channeled,
     bytes: Option<&[u8]>,
     event: Event<'a>,
+    done: &mut Done,
     out: &mut O,
-) -> Result<Done, Stop<'a>>
+) -> Result<(), Stop<'a>>
     requires started { is_some at.old.point.world ≡ true }
     requires few { at.old.point.steps < most_steps }
     requires copies { HasFewCopies at.old.point }
@@ -68,9 +69,9 @@ pub fn do_event<'a, O: Sink>(
         IsLineOf at.old.point.mesh (Does (event_of event)) b.now) }
     ensures comes { IsLineRun (says_lines at.old.say) at.old.point
         (line_outcome_at at.old.point (event_of event.entry)) at.new.point
-        (O.held out.old) (O.held out.new) (without_value result) }
-    ensures answer { IfOk result
-        (IsAnswerOf at.old.point (event_of event.entry) at.new.point) }
+        (O.held out.old) (O.held out.new) result }
+    ensures answer { OnOk result
+        (IsAnswerOf at.old.point (event_of event.entry) at.new.point done.new) }
     ensures copies { OnOk result (HasFewCopies at.new.point) }
     ensures only { at.new ≡ record at.old { point = at.new.point } }
     ensures cause { HasStopCause (O.faults out.old) (O.faults out.new) result }
@@ -79,18 +80,16 @@ pub fn do_event<'a, O: Sink>(
     let point = &mut at.point;
     // The contract of `started` says that a world has no more nodes than a mesh may have.
     let _started = point.state.started();
-    let answer = point.state.step_made(at.alloc, &event, &mut point.packet);
-    match answer {
-        Ok(done) => {
-            let mesh = point.state.mesh();
-            let packet = &point.packet;
-            match say_if(say, mesh, bytes, &event, &done, packet, out) {
-                Ok(()) => Ok(done),
-                Err(_) => Err(Stop::WriteFault),
-            }
-        }
-        Err(StepError::Full { node, field }) => Err(Stop::Full { event, node, field }),
-        Err(StepError::NoMemory) => Err(Stop::NoMemory),
+    let (alloc, state, packet) = (at.alloc, &mut point.state, &mut point.packet);
+    match state.step_counted(alloc, &event, packet, true, done) {
+        Ok(()) => {}
+        Err(StepError::Full { node, field }) => return Err(Stop::Full { event, node, field }),
+        Err(StepError::NoMemory) => return Err(Stop::NoMemory),
+    }
+    let mesh = point.state.mesh();
+    match say_if(say, mesh, bytes, &event, done, &point.packet, out) {
+        Ok(()) => Ok(()),
+        Err(_) => Err(Stop::WriteFault),
     }
 }
 

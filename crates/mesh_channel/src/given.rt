@@ -17,7 +17,7 @@ ghost use Rattle.mesh_channel.specs.Room.{most_left, most_events, HasFewCopies, 
 use crate::channeled::Channeled;
 use crate::event::{after_given, do_event};
 use crate::until::LAST_TICK;
-use mesh_base::Event;
+use mesh_base::{Done, Event};
 use mesh_io::Sink;
 use mesh_run::Stop;
 
@@ -51,7 +51,8 @@ fn do_left<O: Sink>(at: &mut Channeled, out: &mut O) -> Result<(), Stop<'static>
     ensures cause { HasStopCause (O.faults out.old) (O.faults out.new) result }
 {
     'left: while let Some(event) = next_left(at) {
-        if let Err(stop) = do_event(at, None, event, out) {
+        let mut done = Done::Idle;
+        if let Err(stop) = do_event(at, None, event, &mut done, out) {
             return Err(stop);
         }
     }
@@ -85,10 +86,10 @@ pub fn do_given<'a, O: Sink>(
     ensures cause { HasStopCause (O.faults out.old) (O.faults out.new) result }
 {
     at.point.begin(at.alloc)?;
-    let done = match do_event(at, Some(bytes), event, out) {
-        Ok(done) => done,
-        Err(stop) => return Err(stop),
-    };
+    let mut done = Done::Idle;
+    if let Err(stop) = do_event(at, Some(bytes), event, &mut done, out) {
+        return Err(stop);
+    }
     after_given(&mut at.channel, &at.rates, &done)?;
     if let Err(stop) = do_left(at, out) {
         return Err(stop);

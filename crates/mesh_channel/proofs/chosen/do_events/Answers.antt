@@ -69,7 +69,7 @@ returns-in_err-after_chosen-clause-ran g c =
     let z : Channeled = record r { channel = c.after_chosen.new.channel } in
     let told : says_lines q.say ≡ say = ap (λ (x : Channeled). says_lines x.say) c.choose.ensures.only ∙ ap (λ (x : Channeled). says_lines x.say) c.events.invariant.only in
     let rated : r.rates ≡ rates = ap (λ (x : Channeled). x.rates) c.do_event.ensures.only ∙ ap (λ (x : Channeled). x.rates) c.choose.ensures.only ∙ ap (λ (x : Channeled). x.rates) c.events.invariant.only in
-    let done = subst (λ (s : Bool). IsLineDone s (line_outcome_at q.point e) r.point (g.O.Sink.held c.events.out) (g.O.Sink.held c.do_event.new.out)) told c.in-Ok.ensures.comes in
+    let done = subst (λ (s : Bool). IsLineDone s (line_outcome_at q.point e) r.point (g.O.Sink.held c.events.out) (g.O.Sink.held c.do_event.new.out)) told c.in_default-do_event.ensures.comes in
     let kept = subst (λ (m : RunState). IsLineDone say (line_outcome_at m e) r.point (g.O.Sink.held c.events.out) (g.O.Sink.held c.do_event.new.out)) (ap (λ (x : Channeled). x.point) c.choose.ensures.only) done in
     rw (gives.1, gives.2) (c.events.invariant.ran (g.O.Sink.held c.do_event.new.out) r.point (Err stop.NoMemory)
     (chosen_breaks say c.args.most c.events.did rates c.args.until.now p.point r.point r.point p.channel q.channel e o _ _ c.events-test.true is c.choose.ensures.value kept))
@@ -85,78 +85,78 @@ pub events-preserved : goal.events-preserved
 events-preserved g c =
     chosen_goes_on c.args.until.now c.args.most c.events.did c.args.at.now c.events.at c.choose.new.at c.do_event.new.at c.after_chosen.new.channel (event_of c.in-Some.event) (option_map event_of c.choose.result) _ (g.O.Sink.held c.events.out) (g.O.Sink.held c.do_event.new.out) _ _ _ c.events.invariant
     c.events-test.true c.choose.ensures.only c.choose.ensures.value c.choose.ensures.left (c.choose.ensures.tick c.events.invariant.tick c.requires.last) (ap (option_map event_of) c.in-Some.is)
-    c.do_event.ensures.only c.in-Ok.ensures.comes c.in-Ok.ensures.answer.answer.run_state (c.in-Ok.ensures.cause.none (λ x. cc)) c.in-Ok.ensures.copies
-    (c.in_ok-after_chosen.ensures.decided c.choose.new.at.point c.do_event.new.at.point (event_of c.in-Some.event) c.in-Ok.ensures.answer) c.in_ok-after_chosen.ensures.tick c.in_ok-after_chosen.ensures.few
+    c.do_event.ensures.only c.in_default-do_event.ensures.comes c.in_default-do_event.ensures.answer.answer.run_state (c.in_default-do_event.ensures.cause.none (λ x. cc)) c.in_default-do_event.ensures.copies
+    (c.in_ok-after_chosen.ensures.decided c.choose.new.at.point c.do_event.new.at.point (event_of c.in-Some.event) c.in_default-do_event.ensures.answer) c.in_ok-after_chosen.ensures.tick c.in_ok-after_chosen.ensures.few
 
 pub events-preserved-in_ok-after_chosen : goal.events-preserved-in_ok-after_chosen
 events-preserved-in_ok-after_chosen g c =
     chosen_goes_on c.args.until.now c.args.most c.events.did c.args.at.now c.events.at c.choose.new.at c.do_event.new.at c.after_chosen.new.channel (event_of c.in-Some.event) (option_map event_of c.choose.result) _ (g.O.Sink.held c.events.out) (g.O.Sink.held c.do_event.new.out) _ _ _ c.events.invariant
     c.events-test.true c.choose.ensures.only c.choose.ensures.value c.choose.ensures.left (c.choose.ensures.tick c.events.invariant.tick c.requires.last) (ap (option_map event_of) c.in-Some.is)
-    c.do_event.ensures.only c.in-Ok.ensures.comes c.in-Ok.ensures.answer.answer.run_state (c.in-Ok.ensures.cause.none (λ x. cc)) c.in-Ok.ensures.copies
-    (c.in_ok-after_chosen.ensures.decided c.choose.new.at.point c.do_event.new.at.point (event_of c.in-Some.event) c.in-Ok.ensures.answer) c.in_ok-after_chosen.ensures.tick c.in_ok-after_chosen.ensures.few
+    c.do_event.ensures.only c.in_default-do_event.ensures.comes c.in_default-do_event.ensures.answer.answer.run_state (c.in_default-do_event.ensures.cause.none (λ x. cc)) c.in_default-do_event.ensures.copies
+    (c.in_ok-after_chosen.ensures.decided c.choose.new.at.point c.do_event.new.at.point (event_of c.in-Some.event) c.in_default-do_event.ensures.answer) c.in_ok-after_chosen.ensures.tick c.in_ok-after_chosen.ensures.few
 
 pub events-preserved-in_ok-after_chosen-2 : goal.events-preserved-in_ok-after_chosen-2
 events-preserved-in_ok-after_chosen-2 g c =
     chosen_goes_on c.args.until.now c.args.most c.events.did c.args.at.now c.events.at c.choose.new.at c.do_event.new.at c.after_chosen.new.channel (event_of c.in-Some.event) (option_map event_of c.choose.result) _ (g.O.Sink.held c.events.out) (g.O.Sink.held c.do_event.new.out) _ _ _ c.events.invariant
     c.events-test.true c.choose.ensures.only c.choose.ensures.value c.choose.ensures.left (c.choose.ensures.tick c.events.invariant.tick c.requires.last) (ap (option_map event_of) c.in-Some.is)
-    c.do_event.ensures.only c.in-Ok.ensures.comes c.in-Ok.ensures.answer.answer.run_state (c.in-Ok.ensures.cause.none (λ x. cc)) c.in-Ok.ensures.copies
-    (c.in_ok-after_chosen.ensures.decided c.choose.new.at.point c.do_event.new.at.point (event_of c.in-Some.event) c.in-Ok.ensures.answer) c.in_ok-after_chosen.ensures.tick c.in_ok-after_chosen.ensures.few
+    c.do_event.ensures.only c.in_default-do_event.ensures.comes c.in_default-do_event.ensures.answer.answer.run_state (c.in_default-do_event.ensures.cause.none (λ x. cc)) c.in_default-do_event.ensures.copies
+    (c.in_ok-after_chosen.ensures.decided c.choose.new.at.point c.do_event.new.at.point (event_of c.in-Some.event) c.in_default-do_event.ensures.answer) c.in_ok-after_chosen.ensures.tick c.in_ok-after_chosen.ensures.few
 
 pub events-preserved-in_ok-after_chosen-3 : goal.events-preserved-in_ok-after_chosen-3
 events-preserved-in_ok-after_chosen-3 g c =
     chosen_goes_on c.args.until.now c.args.most c.events.did c.args.at.now c.events.at c.choose.new.at c.do_event.new.at c.after_chosen.new.channel (event_of c.in-Some.event) (option_map event_of c.choose.result) _ (g.O.Sink.held c.events.out) (g.O.Sink.held c.do_event.new.out) _ _ _ c.events.invariant
     c.events-test.true c.choose.ensures.only c.choose.ensures.value c.choose.ensures.left (c.choose.ensures.tick c.events.invariant.tick c.requires.last) (ap (option_map event_of) c.in-Some.is)
-    c.do_event.ensures.only c.in-Ok.ensures.comes c.in-Ok.ensures.answer.answer.run_state (c.in-Ok.ensures.cause.none (λ x. cc)) c.in-Ok.ensures.copies
-    (c.in_ok-after_chosen.ensures.decided c.choose.new.at.point c.do_event.new.at.point (event_of c.in-Some.event) c.in-Ok.ensures.answer) c.in_ok-after_chosen.ensures.tick c.in_ok-after_chosen.ensures.few
+    c.do_event.ensures.only c.in_default-do_event.ensures.comes c.in_default-do_event.ensures.answer.answer.run_state (c.in_default-do_event.ensures.cause.none (λ x. cc)) c.in_default-do_event.ensures.copies
+    (c.in_ok-after_chosen.ensures.decided c.choose.new.at.point c.do_event.new.at.point (event_of c.in-Some.event) c.in_default-do_event.ensures.answer) c.in_ok-after_chosen.ensures.tick c.in_ok-after_chosen.ensures.few
 
 pub events-preserved-in_ok-after_chosen-4 : goal.events-preserved-in_ok-after_chosen-4
 events-preserved-in_ok-after_chosen-4 g c =
     chosen_goes_on c.args.until.now c.args.most c.events.did c.args.at.now c.events.at c.choose.new.at c.do_event.new.at c.after_chosen.new.channel (event_of c.in-Some.event) (option_map event_of c.choose.result) _ (g.O.Sink.held c.events.out) (g.O.Sink.held c.do_event.new.out) _ _ _ c.events.invariant
     c.events-test.true c.choose.ensures.only c.choose.ensures.value c.choose.ensures.left (c.choose.ensures.tick c.events.invariant.tick c.requires.last) (ap (option_map event_of) c.in-Some.is)
-    c.do_event.ensures.only c.in-Ok.ensures.comes c.in-Ok.ensures.answer.answer.run_state (c.in-Ok.ensures.cause.none (λ x. cc)) c.in-Ok.ensures.copies
-    (c.in_ok-after_chosen.ensures.decided c.choose.new.at.point c.do_event.new.at.point (event_of c.in-Some.event) c.in-Ok.ensures.answer) c.in_ok-after_chosen.ensures.tick c.in_ok-after_chosen.ensures.few
+    c.do_event.ensures.only c.in_default-do_event.ensures.comes c.in_default-do_event.ensures.answer.answer.run_state (c.in_default-do_event.ensures.cause.none (λ x. cc)) c.in_default-do_event.ensures.copies
+    (c.in_ok-after_chosen.ensures.decided c.choose.new.at.point c.do_event.new.at.point (event_of c.in-Some.event) c.in_default-do_event.ensures.answer) c.in_ok-after_chosen.ensures.tick c.in_ok-after_chosen.ensures.few
 
 pub events-preserved-in_ok-after_chosen-5 : goal.events-preserved-in_ok-after_chosen-5
 events-preserved-in_ok-after_chosen-5 g c =
     chosen_goes_on c.args.until.now c.args.most c.events.did c.args.at.now c.events.at c.choose.new.at c.do_event.new.at c.after_chosen.new.channel (event_of c.in-Some.event) (option_map event_of c.choose.result) _ (g.O.Sink.held c.events.out) (g.O.Sink.held c.do_event.new.out) _ _ _ c.events.invariant
     c.events-test.true c.choose.ensures.only c.choose.ensures.value c.choose.ensures.left (c.choose.ensures.tick c.events.invariant.tick c.requires.last) (ap (option_map event_of) c.in-Some.is)
-    c.do_event.ensures.only c.in-Ok.ensures.comes c.in-Ok.ensures.answer.answer.run_state (c.in-Ok.ensures.cause.none (λ x. cc)) c.in-Ok.ensures.copies
-    (c.in_ok-after_chosen.ensures.decided c.choose.new.at.point c.do_event.new.at.point (event_of c.in-Some.event) c.in-Ok.ensures.answer) c.in_ok-after_chosen.ensures.tick c.in_ok-after_chosen.ensures.few
+    c.do_event.ensures.only c.in_default-do_event.ensures.comes c.in_default-do_event.ensures.answer.answer.run_state (c.in_default-do_event.ensures.cause.none (λ x. cc)) c.in_default-do_event.ensures.copies
+    (c.in_ok-after_chosen.ensures.decided c.choose.new.at.point c.do_event.new.at.point (event_of c.in-Some.event) c.in_default-do_event.ensures.answer) c.in_ok-after_chosen.ensures.tick c.in_ok-after_chosen.ensures.few
 
 pub events-preserved-in_ok-after_chosen-6 : goal.events-preserved-in_ok-after_chosen-6
 events-preserved-in_ok-after_chosen-6 g c =
     chosen_goes_on c.args.until.now c.args.most c.events.did c.args.at.now c.events.at c.choose.new.at c.do_event.new.at c.after_chosen.new.channel (event_of c.in-Some.event) (option_map event_of c.choose.result) _ (g.O.Sink.held c.events.out) (g.O.Sink.held c.do_event.new.out) _ _ _ c.events.invariant
     c.events-test.true c.choose.ensures.only c.choose.ensures.value c.choose.ensures.left (c.choose.ensures.tick c.events.invariant.tick c.requires.last) (ap (option_map event_of) c.in-Some.is)
-    c.do_event.ensures.only c.in-Ok.ensures.comes c.in-Ok.ensures.answer.answer.run_state (c.in-Ok.ensures.cause.none (λ x. cc)) c.in-Ok.ensures.copies
-    (c.in_ok-after_chosen.ensures.decided c.choose.new.at.point c.do_event.new.at.point (event_of c.in-Some.event) c.in-Ok.ensures.answer) c.in_ok-after_chosen.ensures.tick c.in_ok-after_chosen.ensures.few
+    c.do_event.ensures.only c.in_default-do_event.ensures.comes c.in_default-do_event.ensures.answer.answer.run_state (c.in_default-do_event.ensures.cause.none (λ x. cc)) c.in_default-do_event.ensures.copies
+    (c.in_ok-after_chosen.ensures.decided c.choose.new.at.point c.do_event.new.at.point (event_of c.in-Some.event) c.in_default-do_event.ensures.answer) c.in_ok-after_chosen.ensures.tick c.in_ok-after_chosen.ensures.few
 
 pub events-preserved-in_ok-after_chosen-7 : goal.events-preserved-in_ok-after_chosen-7
 events-preserved-in_ok-after_chosen-7 g c =
     chosen_goes_on c.args.until.now c.args.most c.events.did c.args.at.now c.events.at c.choose.new.at c.do_event.new.at c.after_chosen.new.channel (event_of c.in-Some.event) (option_map event_of c.choose.result) _ (g.O.Sink.held c.events.out) (g.O.Sink.held c.do_event.new.out) _ _ _ c.events.invariant
     c.events-test.true c.choose.ensures.only c.choose.ensures.value c.choose.ensures.left (c.choose.ensures.tick c.events.invariant.tick c.requires.last) (ap (option_map event_of) c.in-Some.is)
-    c.do_event.ensures.only c.in-Ok.ensures.comes c.in-Ok.ensures.answer.answer.run_state (c.in-Ok.ensures.cause.none (λ x. cc)) c.in-Ok.ensures.copies
-    (c.in_ok-after_chosen.ensures.decided c.choose.new.at.point c.do_event.new.at.point (event_of c.in-Some.event) c.in-Ok.ensures.answer) c.in_ok-after_chosen.ensures.tick c.in_ok-after_chosen.ensures.few
+    c.do_event.ensures.only c.in_default-do_event.ensures.comes c.in_default-do_event.ensures.answer.answer.run_state (c.in_default-do_event.ensures.cause.none (λ x. cc)) c.in_default-do_event.ensures.copies
+    (c.in_ok-after_chosen.ensures.decided c.choose.new.at.point c.do_event.new.at.point (event_of c.in-Some.event) c.in_default-do_event.ensures.answer) c.in_ok-after_chosen.ensures.tick c.in_ok-after_chosen.ensures.few
 
 pub events-preserved-in_ok-after_chosen-8 : goal.events-preserved-in_ok-after_chosen-8
 events-preserved-in_ok-after_chosen-8 g c =
     chosen_goes_on c.args.until.now c.args.most c.events.did c.args.at.now c.events.at c.choose.new.at c.do_event.new.at c.after_chosen.new.channel (event_of c.in-Some.event) (option_map event_of c.choose.result) _ (g.O.Sink.held c.events.out) (g.O.Sink.held c.do_event.new.out) _ _ _ c.events.invariant
     c.events-test.true c.choose.ensures.only c.choose.ensures.value c.choose.ensures.left (c.choose.ensures.tick c.events.invariant.tick c.requires.last) (ap (option_map event_of) c.in-Some.is)
-    c.do_event.ensures.only c.in-Ok.ensures.comes c.in-Ok.ensures.answer.answer.run_state (c.in-Ok.ensures.cause.none (λ x. cc)) c.in-Ok.ensures.copies
-    (c.in_ok-after_chosen.ensures.decided c.choose.new.at.point c.do_event.new.at.point (event_of c.in-Some.event) c.in-Ok.ensures.answer) c.in_ok-after_chosen.ensures.tick c.in_ok-after_chosen.ensures.few
+    c.do_event.ensures.only c.in_default-do_event.ensures.comes c.in_default-do_event.ensures.answer.answer.run_state (c.in_default-do_event.ensures.cause.none (λ x. cc)) c.in_default-do_event.ensures.copies
+    (c.in_ok-after_chosen.ensures.decided c.choose.new.at.point c.do_event.new.at.point (event_of c.in-Some.event) c.in_default-do_event.ensures.answer) c.in_ok-after_chosen.ensures.tick c.in_ok-after_chosen.ensures.few
 
 pub events-preserved-in_ok-after_chosen-9 : goal.events-preserved-in_ok-after_chosen-9
 events-preserved-in_ok-after_chosen-9 g c =
     chosen_goes_on c.args.until.now c.args.most c.events.did c.args.at.now c.events.at c.choose.new.at c.do_event.new.at c.after_chosen.new.channel (event_of c.in-Some.event) (option_map event_of c.choose.result) _ (g.O.Sink.held c.events.out) (g.O.Sink.held c.do_event.new.out) _ _ _ c.events.invariant
     c.events-test.true c.choose.ensures.only c.choose.ensures.value c.choose.ensures.left (c.choose.ensures.tick c.events.invariant.tick c.requires.last) (ap (option_map event_of) c.in-Some.is)
-    c.do_event.ensures.only c.in-Ok.ensures.comes c.in-Ok.ensures.answer.answer.run_state (c.in-Ok.ensures.cause.none (λ x. cc)) c.in-Ok.ensures.copies
-    (c.in_ok-after_chosen.ensures.decided c.choose.new.at.point c.do_event.new.at.point (event_of c.in-Some.event) c.in-Ok.ensures.answer) c.in_ok-after_chosen.ensures.tick c.in_ok-after_chosen.ensures.few
+    c.do_event.ensures.only c.in_default-do_event.ensures.comes c.in_default-do_event.ensures.answer.answer.run_state (c.in_default-do_event.ensures.cause.none (λ x. cc)) c.in_default-do_event.ensures.copies
+    (c.in_ok-after_chosen.ensures.decided c.choose.new.at.point c.do_event.new.at.point (event_of c.in-Some.event) c.in_default-do_event.ensures.answer) c.in_ok-after_chosen.ensures.tick c.in_ok-after_chosen.ensures.few
 
 pub events-preserved-in_ok-after_chosen-10 : goal.events-preserved-in_ok-after_chosen-10
 events-preserved-in_ok-after_chosen-10 g c =
     chosen_goes_on c.args.until.now c.args.most c.events.did c.args.at.now c.events.at c.choose.new.at c.do_event.new.at c.after_chosen.new.channel (event_of c.in-Some.event) (option_map event_of c.choose.result) _ (g.O.Sink.held c.events.out) (g.O.Sink.held c.do_event.new.out) _ _ _ c.events.invariant
     c.events-test.true c.choose.ensures.only c.choose.ensures.value c.choose.ensures.left (c.choose.ensures.tick c.events.invariant.tick c.requires.last) (ap (option_map event_of) c.in-Some.is)
-    c.do_event.ensures.only c.in-Ok.ensures.comes c.in-Ok.ensures.answer.answer.run_state (c.in-Ok.ensures.cause.none (λ x. cc)) c.in-Ok.ensures.copies
-    (c.in_ok-after_chosen.ensures.decided c.choose.new.at.point c.do_event.new.at.point (event_of c.in-Some.event) c.in-Ok.ensures.answer) c.in_ok-after_chosen.ensures.tick c.in_ok-after_chosen.ensures.few
+    c.do_event.ensures.only c.in_default-do_event.ensures.comes c.in_default-do_event.ensures.answer.answer.run_state (c.in_default-do_event.ensures.cause.none (λ x. cc)) c.in_default-do_event.ensures.copies
+    (c.in_ok-after_chosen.ensures.decided c.choose.new.at.point c.do_event.new.at.point (event_of c.in-Some.event) c.in_default-do_event.ensures.answer) c.in_ok-after_chosen.ensures.tick c.in_ok-after_chosen.ensures.few
 
 pub returns-clause-ran : goal.returns-clause-ran
 returns-clause-ran g c =

@@ -53,7 +53,7 @@ pub returns-in_err-after_given-clause-comes : goal.returns-in_err-after_given-cl
 returns-in_err-after_given-clause-comes g c =
     let p = c.args.at.now in
     let gives = err_from_is_err_and c.from_residual-in_err-after_given.result c.from_residual-in_err-after_given.ensures.1 in
-    rw (gives.1, gives.2) (given_breaks (says_lines p.say) p.rates p.point c.begin.new.self c.do_event.new.at.point c.do_event.new.at.point (event_of c.args.event) p.channel _ _ c.in_ok-begin.ensures.ok c.in-Ok.ensures.comes)
+    rw (gives.1, gives.2) (given_breaks (says_lines p.say) p.rates p.point c.begin.new.self c.do_event.new.at.point c.do_event.new.at.point (event_of c.args.event) p.channel _ _ c.in_ok-begin.ensures.ok c.in_default.ensures.comes)
 
 pub returns-in_err-after_given-clause-only : goal.returns-in_err-after_given-clause-only
 returns-in_err-after_given-clause-only g c =
@@ -66,7 +66,7 @@ pub do_left-requires : goal.do_left-requires
 do_left-requires g c =
     let m = c.args.at.now.point in
     let r = c.do_event.new.at in
-    let run_state = c.in-Ok.ensures.answer.answer.run_state in
+    let run_state = c.in_default.ensures.answer.answer.run_state in
     let e = event_of c.args.event in
     let same : c.begin.new.self ≡ with_world m = c.in_ok-begin.ensures.ok in
     let steps = ap (λ (x : RunState). x.steps) same in
@@ -77,7 +77,7 @@ do_left-requires g c =
     record {
       started = stepped_started c.begin.new.self r.point e run_state;
       some = omega (arith, mesh, size, c.requires.printable.0);
-      copies = c.in-Ok.ensures.copies;
+      copies = c.in_default.ensures.copies;
       few = omega (arith, steps, stepped, kept, c.in_ok-after_given.ensures.few, c.requires.left, c.requires.steps);
     }
 
@@ -91,8 +91,8 @@ returns-in-Err-do_left-clause-comes g c =
     let told : says_lines r.say ≡ says_lines p.say = ap (λ (x : Channeled). says_lines x.say) c.do_event.ensures.only in
     let rated : r.rates ≡ p.rates = ap (λ (x : Channeled). x.rates) c.do_event.ensures.only in
     let kept : r.channel ≡ p.channel = ap (λ (x : Channeled). x.channel) c.do_event.ensures.only in
-    let then = c.in_ok-after_given.ensures.decided s r.point e c.in-Ok.ensures.answer ∙ ap (λ (x : Rates). after_given x (world_of s) (outcome_at s e) r.channel) rated ∙ ap (after_given p.rates (world_of s) (outcome_at s e)) kept in
-    given_left_stops (says_lines p.say) p.rates p.point s r.point c.do_left.new.at.point e p.channel z.channel _ (g.O.Sink.held c.do_event.new.out) _ c.in-Err-do_left.stop c.in_ok-begin.ensures.ok then c.in-Ok.ensures.comes
+    let then = c.in_ok-after_given.ensures.decided s r.point e c.in_default.ensures.answer ∙ ap (λ (x : Rates). after_given x (world_of s) (outcome_at s e) r.channel) rated ∙ ap (after_given p.rates (world_of s) (outcome_at s e)) kept in
+    given_left_stops (says_lines p.say) p.rates p.point s r.point c.do_left.new.at.point e p.channel z.channel _ (g.O.Sink.held c.do_event.new.out) _ c.in-Err-do_left.stop c.in_ok-begin.ensures.ok then c.in_default.ensures.comes
     (subst (λ (b : Bool). IsEventsRun b r.point (outcome_of_events r.point z.channel.left) c.do_left.new.at.point (g.O.Sink.held c.do_event.new.out) (g.O.Sink.held c.do_left.new.out) (Err c.in-Err-do_left.stop)) told c.in-Err-do_left.ensures.ran)
 
 pub returns-in-Err-do_left-clause-only : goal.returns-in-Err-do_left-clause-only
@@ -105,8 +105,8 @@ pub count_line-requires : goal.count_line-requires
 count_line-requires g c =
     let m = c.args.at.now.point in
     let before = ap (λ (x : RunState). x.lines) c.in_ok-begin.ensures.ok in
-    let event = stepped_lines c.begin.new.self c.do_event.new.at.point (event_of c.args.event) c.in-Ok.ensures.answer.answer.run_state in
-    omega (arith, before, event, c.in_default.ensures.lines, c.requires.few)
+    let event = stepped_lines c.begin.new.self c.do_event.new.at.point (event_of c.args.event) c.in_default.ensures.answer.answer.run_state in
+    omega (arith, before, event, c.in_default-do_left.ensures.lines, c.requires.few)
 
 pub returns-clause-comes : goal.returns-clause-comes
 returns-clause-comes g c =
@@ -118,9 +118,9 @@ returns-clause-comes g c =
     let told : says_lines r.say ≡ says_lines p.say = ap (λ (x : Channeled). says_lines x.say) c.do_event.ensures.only in
     let rated : r.rates ≡ p.rates = ap (λ (x : Channeled). x.rates) c.do_event.ensures.only in
     let kept : r.channel ≡ p.channel = ap (λ (x : Channeled). x.channel) c.do_event.ensures.only in
-    let then = c.in_ok-after_given.ensures.decided s r.point e c.in-Ok.ensures.answer ∙ ap (λ (x : Rates). after_given x (world_of s) (outcome_at s e) r.channel) rated ∙ ap (after_given p.rates (world_of s) (outcome_at s e)) kept in
-    given_goes (says_lines p.say) p.rates p.point s r.point c.do_left.new.at.point c.count_line.new.self e p.channel z.channel _ (g.O.Sink.held c.do_event.new.out) _ c.in_ok-begin.ensures.ok then c.in-Ok.ensures.comes
-    (subst (λ (b : Bool). IsEventsRun b r.point (outcome_of_events r.point z.channel.left) c.do_left.new.at.point (g.O.Sink.held c.do_event.new.out) (g.O.Sink.held c.do_left.new.out) (Ok 0)) told c.in_default.ensures.ran) c.count_line.ensures
+    let then = c.in_ok-after_given.ensures.decided s r.point e c.in_default.ensures.answer ∙ ap (λ (x : Rates). after_given x (world_of s) (outcome_at s e) r.channel) rated ∙ ap (after_given p.rates (world_of s) (outcome_at s e)) kept in
+    given_goes (says_lines p.say) p.rates p.point s r.point c.do_left.new.at.point c.count_line.new.self e p.channel z.channel _ (g.O.Sink.held c.do_event.new.out) _ c.in_ok-begin.ensures.ok then c.in_default.ensures.comes
+    (subst (λ (b : Bool). IsEventsRun b r.point (outcome_of_events r.point z.channel.left) c.do_left.new.at.point (g.O.Sink.held c.do_event.new.out) (g.O.Sink.held c.do_left.new.out) (Ok 0)) told c.in_default-do_left.ensures.ran) c.count_line.ensures
 
 pub returns-clause-channel : goal.returns-clause-channel
 returns-clause-channel g c =
@@ -130,8 +130,8 @@ returns-clause-channel g c =
     let e = event_of c.args.event in
     let rated : r.rates ≡ p.rates = ap (λ (x : Channeled). x.rates) c.do_event.ensures.only in
     let kept : r.channel ≡ p.channel = ap (λ (x : Channeled). x.channel) c.do_event.ensures.only in
-    let then = c.in_ok-after_given.ensures.decided s r.point e c.in-Ok.ensures.answer ∙ ap (λ (x : Rates). after_given x (world_of s) (outcome_at s e) r.channel) rated ∙ ap (after_given p.rates (world_of s) (outcome_at s e)) kept in
-    c.in_default.ensures.channel ∙ given_channel p.rates p.point s e p.channel c.after_given.new.channel c.in_ok-begin.ensures.ok then
+    let then = c.in_ok-after_given.ensures.decided s r.point e c.in_default.ensures.answer ∙ ap (λ (x : Rates). after_given x (world_of s) (outcome_at s e) r.channel) rated ∙ ap (after_given p.rates (world_of s) (outcome_at s e)) kept in
+    c.in_default-do_left.ensures.channel ∙ given_channel p.rates p.point s e p.channel c.after_given.new.channel c.in_ok-begin.ensures.ok then
 
 pub returns-clause-only : goal.returns-clause-only
 returns-clause-only g c =
@@ -146,7 +146,7 @@ returns-clause-led g c =
     let p = c.args.at.now in
     let r = c.do_event.new.at in
     let e = event_of c.args.event in
-    let run_state = c.in-Ok.ensures.answer.answer.run_state in
+    let run_state = c.in_default.ensures.answer.answer.run_state in
     let same : c.begin.new.self ≡ with_world p.point = c.in_ok-begin.ensures.ok in
     let lines = ap (λ (x : RunState). x.lines) same in
     let steps = ap (λ (x : RunState). x.steps) same in
@@ -154,14 +154,14 @@ returns-clause-led g c =
     let event_steps = stepped_steps c.begin.new.self r.point e run_state in
     let last_lines = ap (λ (x : RunState). x.lines) c.count_line.ensures in
     let last_steps = ap (λ (x : RunState). x.steps) c.count_line.ensures in
-    let left = ap (λ (x : Channel). length x.left) c.in_default.ensures.channel in
-    let tick = ap (λ (x : Channel). x.tick) c.in_default.ensures.channel in
+    let left = ap (λ (x : Channel). length x.left) c.in_default-do_left.ensures.channel in
+    let tick = ap (λ (x : Channel). x.tick) c.in_default-do_left.ensures.channel in
     let kept = ap (λ (x : Channeled). length x.channel.left) c.do_event.ensures.only in
     let kept_tick = ap (λ (x : Channeled). x.channel.tick) c.do_event.ensures.only in
     record {
-      lines = omega (arith, lines, event_lines, c.in_default.ensures.lines, last_lines);
-      steps = omega (arith, steps, event_steps, c.in_default.ensures.steps, last_steps, kept, c.in_ok-after_given.ensures.few, c.requires.left);
+      lines = omega (arith, lines, event_lines, c.in_default-do_left.ensures.lines, last_lines);
+      steps = omega (arith, steps, event_steps, c.in_default-do_left.ensures.steps, last_steps, kept, c.in_ok-after_given.ensures.few, c.requires.left);
       left = λ few. omega (arith, left);
       tick = λ few. omega (arith, tick, kept_tick, c.in_ok-after_given.ensures.tick, few);
-      copies = λ few. few_read c.do_left.new.at.point c.count_line.new.self c.count_line.ensures c.in_default.ensures.copies;
+      copies = λ few. few_read c.do_left.new.at.point c.count_line.new.self c.count_line.ensures c.in_default-do_left.ensures.copies;
     }

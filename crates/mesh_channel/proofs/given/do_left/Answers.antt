@@ -11,6 +11,12 @@ use Rattle.mesh_channel.specs.declared.channeled.Channeled.{Channeled}
 use Rattle.mesh_channel.proofs.Doing.{list_ends, moved_on, moved_channel, moved_point, no_left, left_stops, left_one, left_over, left_goes_on}
 use Rattle.mesh_channel.proofs.given.do_left.Goals as goal
 
+pub left-preserved : goal.left-preserved
+left-preserved g c =
+    left_goes_on c.args.at.now c.left.at c.next_left.new.at c.do_event.new.at (event_of c.in-Some.event) (option_map event_of c.next_left.result) _ (g.O.Sink.held c.left.out) (g.O.Sink.held c.do_event.new.out) _ _ _ c.left.invariant
+    c.next_left.ensures.only c.next_left.ensures.left c.next_left.ensures.next (ap (option_map event_of) c.in-Some.is) c.do_event.ensures.only c.in_default-do_event.ensures.comes
+    c.in_default-do_event.ensures.answer.answer.run_state (c.in_default-do_event.ensures.cause.none (λ x. cc)) c.in_default-do_event.ensures.copies
+
 pub left-preserved-in_default-do_event : goal.left-preserved-in_default-do_event
 left-preserved-in_default-do_event g c =
     left_goes_on c.args.at.now c.left.at c.next_left.new.at c.do_event.new.at (event_of c.in-Some.event) (option_map event_of c.next_left.result) _ (g.O.Sink.held c.left.out) (g.O.Sink.held c.do_event.new.out) _ _ _ c.left.invariant
@@ -67,12 +73,6 @@ left-preserved-in_default-do_event-9 g c =
 
 pub left-preserved-in_default-do_event-10 : goal.left-preserved-in_default-do_event-10
 left-preserved-in_default-do_event-10 g c =
-    left_goes_on c.args.at.now c.left.at c.next_left.new.at c.do_event.new.at (event_of c.in-Some.event) (option_map event_of c.next_left.result) _ (g.O.Sink.held c.left.out) (g.O.Sink.held c.do_event.new.out) _ _ _ c.left.invariant
-    c.next_left.ensures.only c.next_left.ensures.left c.next_left.ensures.next (ap (option_map event_of) c.in-Some.is) c.do_event.ensures.only c.in_default-do_event.ensures.comes
-    c.in_default-do_event.ensures.answer.answer.run_state (c.in_default-do_event.ensures.cause.none (λ x. cc)) c.in_default-do_event.ensures.copies
-
-pub left-preserved-in_default-do_event-11 : goal.left-preserved-in_default-do_event-11
-left-preserved-in_default-do_event-11 g c =
     left_goes_on c.args.at.now c.left.at c.next_left.new.at c.do_event.new.at (event_of c.in-Some.event) (option_map event_of c.next_left.result) _ (g.O.Sink.held c.left.out) (g.O.Sink.held c.do_event.new.out) _ _ _ c.left.invariant
     c.next_left.ensures.only c.next_left.ensures.left c.next_left.ensures.next (ap (option_map event_of) c.in-Some.is) c.do_event.ensures.only c.in_default-do_event.ensures.comes
     c.in_default-do_event.ensures.answer.answer.run_state (c.in_default-do_event.ensures.cause.none (λ x. cc)) c.in_default-do_event.ensures.copies
