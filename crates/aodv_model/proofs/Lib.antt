@@ -3,6 +3,7 @@ pub mod PairLaws
 pub mod Lookups
 pub mod Entries
 pub mod Changes
+pub mod Reactions
 pub mod TablesInMesh
 pub mod Readings
 pub mod SoundTables

@@ -1,7 +1,7 @@
 -- Each turn, send and request that isn't refused keeps every number within its field, and the ids of a node's own
 -- requests within its own number. g is the greatest number.
-use Rattle.std.proofs.Common.{◌≡◌, ◌≢◌, ℕ, ◌+◌, ◌≤◌, ◌⊎◌, Bool, true, false, cond, ◌&&◌, ◌||◌, not, ◌==◌, List, [], ◌∷◌, Some, None, Option, refl, ap, sym, ◌∙◌, subst, arith, inl, inr, eq-eqb}
-use Rattle.std.specs.Prelude.{⊤, option_map, if◌then◌else◌, max, is_some}
+use Rattle.std.proofs.Common.{◌≡◌, ◌≢◌, ℕ, ◌≤◌, ◌⊎◌, Bool, true, false, cond, ◌&&◌, ◌||◌, not, ◌==◌, List, [], ◌∷◌, Some, None, Option, refl, ap, sym, ◌∙◌, subst, arith, inl, inr, eq-eqb}
+use Rattle.std.specs.Prelude.{⊤, option_map, if◌then◌else◌, max}
 use Rattle.std.specs.List.{list_any}
 use Rattle.std.specs.Ordering.{nat_cmp, eq_by_cmp, is_eq}
 use Rattle.std.specs.Cmp.{nat_cmp_total, unsigned_tied, tied_itself, Equal-is}
@@ -18,9 +18,9 @@ use Rattle.mesh_base.specs.declared.events.Variant.TheVariants.{Base, Number, Re
 use Rattle.aodv_model.specs.declared.entry.Entry.{Entry}
 use Rattle.aodv_model.specs.Quality.{inc}
 use Rattle.aodv_model.specs.Pairs.{Pairs, pair_cmp}
-use Rattle.aodv_model.specs.Tables.{Table, Dests, accepted_unreachable, add_pre, dhops, goes_by, in_iD, in_vD, invalidate, invalidated, add_pre_at, merge, nhop, number_in, precs, sqn, unreachable_by, update}
-use Rattle.aodv_model.specs.Cores.{Body, Core, Heard, Item, Message, New, Pkt, Rerr, RouteReply, RouteRequest, Rrep, Rreq, SeenRequests, add, bodies_in, drop, greatest_beside, has_seen, last_request_id, next_request_id, opening}
-use Rattle.aodv_model.specs.Handlers.{All, Cast, Many, Nothing, One, Reaction, after_hearing, after_reply, after_request, ask, broken_by, can_answer, casting, is_stale, data_error, delivering, drop_if_sent, error_cast, first_body, forward_own_entry, forward_reply, forward_request, fresh_id, is_empty, is_error, join_answer_precursors, join_reply_precursors, key_of, link_broken, losing, losing_if_broken, neighbour_entry, on_new, on_new_rreq, on_pkt, on_rerr, on_rrep, on_rreq, one, only, plain, precs_of, reply_for_self, reply_from_table, reply_on, retract, route_entry, send, turn, unicast, with_precs}
+use Rattle.aodv_model.specs.Tables.{Table, Dests, accepted_unreachable, add_pre, goes_by, invalidate, invalidated, add_pre_at, merge, nhop, number_in, precs, sqn, unreachable_by, update}
+use Rattle.aodv_model.specs.Cores.{Core, Heard, Item, Message, New, Pkt, Rerr, RouteReply, RouteRequest, Rrep, Rreq, SeenRequests, greatest_beside, has_seen, last_request_id, next_request_id, opening}
+use Rattle.aodv_model.specs.Handlers.{All, Cast, Many, Nothing, One, Reaction, after_hearing, after_reply, after_request, ask, broken_by, error_cast, forward_own_entry, forward_reply, forward_request, fresh_id, is_empty, join_answer_precursors, join_reply_precursors, key_of, link_broken, neighbour_entry, on_rerr, one, reply_for_self, reply_from_table, retract, route_entry, send, turn, unicast, with_precs}
 use Rattle.aodv_model.specs.Fullness.{ask_full, greatest, is_hop_full, is_id_full, is_number_full, after_learning, send_full, turn_full}
 use Rattle.aodv_model.proofs.Changes.{after_by, mapped_each, update_each}
 use Rattle.aodv_model.proofs.Entries.{if_case}
@@ -28,6 +28,7 @@ use Rattle.aodv_model.proofs.FullNumbers.{full_after_answer, full_after_reply, f
 use Rattle.aodv_model.proofs.Lookups.{get-accepted, get-add_pre, get-invalidate, get-kept, get-unreachable_by}
 use Rattle.aodv_model.proofs.PairLaws.{pair_cmp_total, same_pair}
 use Rattle.aodv_model.proofs.TablesInMesh.{kept_of}
+use Rattle.aodv_model.proofs.Reactions.{unicast_case, error_case, data_error_case, ReactionCases, turn_cases, send_cases}
 
 -- ---- what is kept
 
@@ -203,11 +204,7 @@ module _ (g ip : ℕ) where
   with_table core rt w all = record { named = w.named; own = w.own; table = all; ids = w.ids }
 
   error_within : (variant : Variant) (rt : Table) (dests : Dests) → AreDestsWithin g dests → IsCastWithin g (error_cast variant rt dests)
-  unfolding error_cast
-  error_within variant rt dests within =
-      if_case (IsCastWithin g) (is_error variant) (if maps.len dests == 0 then Nothing else All (Rerr dests)) (if is_empty (precs_of rt dests) then Nothing else Many (precs_of rt dests) (Rerr (with_precs rt dests)))
-      (λ _. if_case (IsCastWithin g) (maps.len dests == 0) Nothing (All (Rerr dests)) (λ _. tt) (λ _. within))
-      (λ _. if_case (IsCastWithin g) (is_empty (precs_of rt dests)) Nothing (Many (precs_of rt dests) (Rerr (with_precs rt dests))) (λ _. tt) (λ _. with_precs_within g rt dests within))
+  error_within variant rt dests within = error_case (IsCastWithin g) variant rt dests tt (λ _. within) (λ _. with_precs_within g rt dests within)
 
   retract_within : (core : Core) (dests : Dests) → IsCoreWithin g ip core → AreDestsWithin g dests → IsReactionWithin g ip (retract core dests)
   unfolding retract
@@ -216,110 +213,39 @@ module _ (g ip : ℕ) where
     cast = error_within core.variant core.rt dests within;
   }
 
-  link_broken_keeps : (core : Core) (y : ℕ) → IsCoreWithin g ip core → Keeps g ip core.rt (broken_by y (link_broken core y))
+  broken_keeps : (core : Core) (y : ℕ) → IsCoreWithin g ip core → Keeps g ip core.rt (broken_by y (link_broken core y))
   unfolding link_broken
-  link_broken_keeps core y w none =
+  broken_keeps core y w none =
       let p = retract_within core (unreachable_by core.rt y) w (unreachable_within g core.rt y w.table none) in
       record { core = p.core; cast = p.cast }
 
   unicast_keeps : (core : Core) (m : Message) (y : ℕ) (range : NodeIds) → IsCoreWithin g ip core → IsMessageWithin g m → Keeps g ip core.rt (unicast core m y range)
-  unfolding unicast
-  unicast_keeps core m y range w inside =
-      if_case (Keeps g ip core.rt) (sets.contains range y) (plain core (casting (One y m))) (broken_by y (link_broken core y))
-      (λ _ _. record { core = w; cast = inside })
-      (λ _. link_broken_keeps core y w)
+  unicast_keeps core m y range w inside = unicast_case (Keeps g ip core.rt) core m y range (λ _ _. record { core = w; cast = inside }) (broken_keeps core y w)
 
   -- the same by a table that is full where this one is
   keeps_alike : (rt rt' : Table) (reaction : Reaction) → ((broken : Option ℕ) → is_full_at g rt broken ≡ is_full_at g rt' broken) → Keeps g ip rt reaction → Keeps g ip rt' reaction
   keeps_alike rt rt' reaction same keeps none = keeps (same (reaction.effect).broken ∙ none)
 
-  only_keeps : (core : Core) (rt : Table) → IsCoreWithin g ip core → Keeps g ip rt (only core)
-  only_keeps core rt w _ = record { core = w; cast = tt }
-
-  -- ---- data
-
-  on_new_keeps : (core : Core) (b : Body) (d : ℕ) → IsCoreWithin g ip core → Keeps g ip core.rt (on_new core b d)
-  unfolding on_new
-  on_new_keeps core b d w =
-      if_case (Keeps g ip core.rt) (d == core.ip) (plain core delivering) (only (record core { store = add core.store d b }))
-      (λ _ _. record { core = w; cast = tt })
-      (λ _ _. record { core = record { named = w.named; own = w.own; table = w.table; ids = w.ids }; cast = tt })
-
-  data_error_within : (core : Core) (d : ℕ) → IsCoreWithin g ip core → IsCastWithin g (data_error core d)
-  unfolding data_error
-  data_error_within core d w =
-      let single : AreDestsWithin g (maps.insert maps.empty d (sqn core.rt d)) = dest_within g d (sqn core.rt d) (number_within g core.rt d w.table) in
-      if_case (IsCastWithin g) (not (in_iD core.rt d)) Nothing (if is_error core.variant then All (Rerr (maps.insert maps.empty d (sqn core.rt d))) else if is_empty (precs core.rt d) then Nothing else Many (precs core.rt d) (Rerr (maps.insert maps.empty d (sqn core.rt d))))
-      (λ _. tt)
-      (λ _. if_case (IsCastWithin g) (is_error core.variant) (All (Rerr (maps.insert maps.empty d (sqn core.rt d)))) (if is_empty (precs core.rt d) then Nothing else Many (precs core.rt d) (Rerr (maps.insert maps.empty d (sqn core.rt d))))
-      (λ _. single)
-      (λ _. if_case (IsCastWithin g) (is_empty (precs core.rt d)) Nothing (Many (precs core.rt d) (Rerr (maps.insert maps.empty d (sqn core.rt d)))) (λ _. tt) (λ _. single)))
-
-  on_pkt_keeps : (core : Core) (range : NodeIds) (b : Body) (d o : ℕ) → IsCoreWithin g ip core → Keeps g ip core.rt (on_pkt core range b d o)
-  unfolding on_pkt
-  on_pkt_keeps core range b d o w =
-      if_case (Keeps g ip core.rt) (d == core.ip) (plain core delivering) (if in_vD core.rt d then losing_if_broken (unicast core (Pkt b d o) (nhop core.rt d) range) else losing (plain core (casting (data_error core d))))
-      (λ _ _. record { core = w; cast = tt })
-      (λ _. if_case (Keeps g ip core.rt) (in_vD core.rt d) (losing_if_broken (unicast core (Pkt b d o) (nhop core.rt d) range)) (losing (plain core (casting (data_error core d))))
-      (λ _ none. let p = unicast_keeps core (Pkt b d o) (nhop core.rt d) range w tt none in record { core = p.core; cast = p.cast })
-      (λ _ _. record { core = w; cast = data_error_within core d w }))
-
-  -- ---- requests
+  -- ---- turns
 
   hearing_within : (core : Core) (from : ℕ) → IsCoreWithin g ip core → IsCoreWithin g ip (after_hearing core from)
   unfolding after_hearing
   hearing_within core from w = with_table core _ w (update_within g core.rt from (neighbour_entry from) w.table (omega arith))
 
   -- the request isn't the node's own
-  request_within : (core : Core) (from : ℕ) (m : RouteRequest) → IsCoreWithin g ip core → m.osn ≤ g → m.oip ≢ ip → IsCoreWithin g ip (after_request core from m)
+  request_within : (core : Core) (from : ℕ) (m : RouteRequest) → IsCoreWithin g ip core → has_seen core.seen (key_of core.variant m) ≡ false → m.osn ≤ g → KnowsOwn ip core (Heard from (Rreq m)) → IsCoreWithin g ip (after_request core from m)
   unfolding after_request after_hearing
-  request_within core from m w l other =
+  request_within core from m w new l knows =
       let first : IsCoreWithin g ip (after_hearing core from) = hearing_within core from w in
       record {
         named = w.named;
         own = w.own;
         table = update_within g (after_hearing core from).rt m.oip (route_entry m.osn m.hops from) first.table l;
         ids = λ i is. elim (inserted core.seen (key_of core.variant m) (ip, i) is) [
-          | inl e ↦ absurd (other (sym (ap (λ (p : ℕ × ℕ). p.0) e ∙ key_first core.variant m)))
+          | inl e ↦ absurd (wrong (sym new ∙ knows (sym (ap (λ (p : ℕ × ℕ). p.0) e ∙ key_first core.variant m))))
           | inr old ↦ w.ids i old
         ];
       }
-
-  reply_for_self_keeps : (core : Core) (range : NodeIds) (m : RouteRequest) → IsCoreWithin g ip core → m.dsn ≤ g → Keeps g ip core.rt (reply_for_self core range m)
-  unfolding reply_for_self
-  reply_for_self_keeps core range m w l =
-      let own : max core.sn m.dsn ≤ g = let o = w.own in omega arith in
-      unicast_keeps (record core { sn = max core.sn m.dsn }) (Rrep (record { hops = 0; dip = m.dip; dsn = max core.sn m.dsn; oip = m.oip })) (nhop core.rt m.oip) range
-      (record { named = w.named; own = own; table = w.table; ids = λ i is. let k = w.ids i is in omega arith }) own
-
-  reply_from_table_keeps : (core : Core) (range : NodeIds) (from : ℕ) (m : RouteRequest) → IsCoreWithin g ip core → Keeps g ip core.rt (reply_from_table core range from m)
-  unfolding reply_from_table
-  reply_from_table_keeps core range from m w =
-      let rt = join_answer_precursors core.rt m.dip m.oip from in
-      let all : AllWithin g rt = join_answer_within g core.rt m.dip m.oip from w.table in
-      keeps_alike rt core.rt _ (full_after_answer g core.rt m.dip m.oip from)
-      (unicast_keeps (record core { rt = rt }) (Rrep (record { hops = dhops rt m.dip; dip = m.dip; dsn = sqn rt m.dip; oip = m.oip })) (nhop rt m.oip) range (with_table core rt w all) (number_within g rt m.dip all))
-
-  on_new_rreq_keeps : (core : Core) (range : NodeIds) (from : ℕ) (m : RouteRequest) → IsCoreWithin g ip core → (m.dsn ≤ g) × (m.osn ≤ g) → Keeps g ip core.rt (on_new_rreq core range from m)
-  unfolding on_new_rreq forward_request
-  on_new_rreq_keeps core range from m w inside =
-      if_case (Keeps g ip core.rt) (m.dip == core.ip) (reply_for_self core range m) (if can_answer core m then reply_from_table core range from m else forward_request core m)
-      (λ _. reply_for_self_keeps core range m w inside.0)
-      (λ _. if_case (Keeps g ip core.rt) (can_answer core m) (reply_from_table core range from m) (forward_request core m)
-      (λ _. reply_from_table_keeps core range from m w)
-      (λ _ _. record { core = w; cast = (both (number_within g core.rt m.dip w.table) inside.0, inside.1) }))
-    where
-      both : {a b : ℕ} → a ≤ g → b ≤ g → max a b ≤ g
-      both x y = omega arith
-
-  on_rreq_keeps : (core : Core) (range : NodeIds) (from : ℕ) (m : RouteRequest) → IsCoreWithin g ip core → (m.dsn ≤ g) × (m.osn ≤ g) → (m.oip ≡ ip → has_seen core.seen (key_of core.variant m) ≡ true) → Keeps g ip (after_request core from m).rt (on_rreq core range from m)
-  unfolding on_rreq
-  on_rreq_keeps core range from m w inside knows =
-      if_case (Keeps g ip (after_request core from m).rt) (has_seen core.seen (key_of core.variant m)) (only (after_hearing core from)) (on_new_rreq (after_request core from m) range from m)
-      (λ _. only_keeps (after_hearing core from) (after_request core from m).rt (hearing_within core from w))
-      (λ new. on_new_rreq_keeps (after_request core from m) range from m (request_within core from m w inside.1 (λ e. wrong (sym new ∙ knows e))) inside)
-
-  -- ---- replies
 
   reply_within : (core : Core) (from : ℕ) (m : RouteReply) → IsCoreWithin g ip core → m.dsn ≤ g → IsCoreWithin g ip (after_reply core from m)
   unfolding after_reply
@@ -327,62 +253,59 @@ module _ (g ip : ℕ) where
       let first : IsCoreWithin g ip (after_hearing core from) = hearing_within core from w in
       with_table (after_hearing core from) _ first (update_within g (after_hearing core from).rt m.dip (route_entry m.dsn m.hops from) first.table l)
 
-  forward_reply_keeps : (core : Core) (range : NodeIds) (m : RouteReply) → IsCoreWithin g ip core → m.dsn ≤ g → Keeps g ip core.rt (forward_reply core range m)
-  unfolding forward_reply
-  forward_reply_keeps core range m w l =
-      let rt = join_reply_precursors core.rt m.dip m.oip in
-      keeps_alike rt core.rt _ (full_after_reply g core.rt m.dip m.oip)
-      (unicast_keeps (record core { rt = rt }) (Rrep (record m { hops = m.hops + 1 })) (nhop rt m.oip) range (with_table core rt w (join_reply_within g core.rt m.dip m.oip w.table)) l)
+  -- a reply is passed on
+  passing_keeps : (core : Core) (range : NodeIds) (m : RouteReply) (sent : Message) → IsCoreWithin g ip core → IsMessageWithin g sent
+      → let rt = join_reply_precursors core.rt m.dip m.oip in Keeps g ip core.rt (unicast (record core { rt = rt }) sent (nhop rt m.oip) range)
+  passing_keeps core range m sent w inside =
+      keeps_alike (join_reply_precursors core.rt m.dip m.oip) core.rt _ (full_after_reply g core.rt m.dip m.oip) (unicast_keeps _ _ _ range (with_table core _ w (join_reply_within g core.rt m.dip m.oip w.table)) inside)
 
-  forward_own_entry_keeps : (core : Core) (range : NodeIds) (m : RouteReply) → IsCoreWithin g ip core → Keeps g ip core.rt (forward_own_entry core range m)
-  unfolding forward_own_entry
-  forward_own_entry_keeps core range m w =
-      let rt = join_reply_precursors core.rt m.dip m.oip in
-      let all : AllWithin g rt = join_reply_within g core.rt m.dip m.oip w.table in
-      keeps_alike rt core.rt _ (full_after_reply g core.rt m.dip m.oip)
-      (unicast_keeps (record core { rt = rt }) (Rrep (record m { hops = dhops rt m.dip; dsn = sqn rt m.dip })) (nhop rt m.oip) range (with_table core rt w all) (number_within g rt m.dip all))
+  reply_from_table_keeps : (core : Core) (range : NodeIds) (from : ℕ) (m : RouteRequest) → IsCoreWithin g ip core → Keeps g ip core.rt (reply_from_table core range from m)
+  unfolding reply_from_table
+  reply_from_table_keeps core range from m w =
+      let rt = join_answer_precursors core.rt m.dip m.oip from in
+      let all : AllWithin g rt = join_answer_within g core.rt m.dip m.oip from w.table in
+      keeps_alike rt core.rt _ (full_after_answer g core.rt m.dip m.oip from) (unicast_keeps _ _ _ range (with_table core rt w all) (number_within g rt m.dip all))
 
-  reply_on_keeps : (variant : Variant) (core : Core) (stale : Bool) (range : NodeIds) (m : RouteReply) → IsCoreWithin g ip core → m.dsn ≤ g → Keeps g ip core.rt (reply_on variant core stale range m)
-  reply_on_keeps Base core stale range m w l = if_case (Keeps g ip core.rt) stale (only core) (forward_reply core range m) (λ _. only_keeps core core.rt w) (λ _. forward_reply_keeps core range m w l)
-  reply_on_keeps Number core stale range m w l = if_case (Keeps g ip core.rt) stale (only core) (forward_reply core range m) (λ _. only_keeps core core.rt w) (λ _. forward_reply_keeps core range m w l)
-  reply_on_keeps Error core stale range m w l = if_case (Keeps g ip core.rt) stale (only core) (forward_reply core range m) (λ _. only_keeps core core.rt w) (λ _. forward_reply_keeps core range m w l)
-  reply_on_keeps Reply core stale range m w l = if_case (Keeps g ip core.rt) (in_vD core.rt m.dip) (forward_own_entry core range m) (only core) (λ _. forward_own_entry_keeps core range m w) (λ _. only_keeps core core.rt w)
-
-  on_rrep_keeps : (core : Core) (range : NodeIds) (from : ℕ) (m : RouteReply) → IsCoreWithin g ip core → m.dsn ≤ g → Keeps g ip (after_reply core from m).rt (on_rrep core range from m)
-  unfolding on_rrep
-  on_rrep_keeps core range from m w l =
-      let later : IsCoreWithin g ip (after_reply core from m) = reply_within core from m w l in
-      if_case (Keeps g ip (after_reply core from m).rt) ((m.oip == core.ip) || not (in_vD (after_reply core from m).rt m.oip)) (only (after_reply core from m)) (reply_on core.variant (after_reply core from m) (is_stale (after_hearing core from).rt m.dip (route_entry m.dsn m.hops from)) range m)
-      (λ _. only_keeps (after_reply core from m) (after_reply core from m).rt later)
-      (λ _. reply_on_keeps core.variant (after_reply core from m) (is_stale (after_hearing core from).rt m.dip (route_entry m.dsn m.hops from)) range m later l)
-
-  -- ---- errors
-
-  on_rerr_keeps : (core : Core) (from : ℕ) (dests : Dests) → IsCoreWithin g ip core → AreDestsWithin g dests → Keeps g ip (after_hearing core from).rt (on_rerr core from dests)
-  unfolding on_rerr
-  on_rerr_keeps core from dests w within _ =
-      retract_within (after_hearing core from) (accepted_unreachable (after_hearing core from).rt from dests) (hearing_within core from w) (accepted_within g (after_hearing core from).rt from dests within)
-
-  -- ---- all
+  keeps : (core : Core) (range : NodeIds) → IsCoreWithin g ip core → ReactionCases core range (λ item did. IsItemWithin g item → KnowsOwn ip core item → Keeps g ip (after_learning core item).rt did)
+  unfolding reply_for_self forward_request forward_reply forward_own_entry on_rerr
+  keeps core range w = record {
+    own = λ b d _ inside knows none. record { core = w; cast = tt };
+    stored = λ b d _ inside knows none. record { core = record { named = w.named; own = w.own; table = w.table; ids = w.ids }; cast = tt };
+    arrived = λ from b d o _ inside knows none. record { core = w; cast = tt };
+    forwarded = λ from b d o _ inside knows none. let p = unicast_keeps core (Pkt b d o) (nhop core.rt d) range w tt none in record { core = p.core; cast = p.cast };
+    dropped = λ from b d o inside knows none.
+        let single = dest_within g d (sqn core.rt d) (number_within g core.rt d w.table) in
+        record { core = w; cast = data_error_case (IsCastWithin g) core d tt single (λ _. single) };
+    known = λ from m inside knows none. record { core = hearing_within core from w; cast = tt };
+    answered = λ from m new _ inside knows.
+        let after = request_within core from m w new inside.1 knows in
+        let own : max (after_request core from m).sn m.dsn ≤ g = both after.own inside.0 in
+        unicast_keeps (record (after_request core from m) { sn = max (after_request core from m).sn m.dsn }) _ _ range
+        (record { named = after.named; own = own; table = after.table; ids = λ i is. let k = after.ids i is in omega arith }) own;
+    vouched = λ from m new _ _ inside knows. reply_from_table_keeps (after_request core from m) range from m (request_within core from m w new inside.1 knows);
+    flooded = λ from m new inside knows none.
+        let after = request_within core from m w new inside.1 knows in
+        record { core = after; cast = (both (number_within g (after_request core from m).rt m.dip after.table) inside.0, inside.1) };
+    ended = λ from m inside knows none. record { core = reply_within core from m w inside; cast = tt };
+    passed = λ from m _ inside knows. passing_keeps (after_reply core from m) range m _ (reply_within core from m w inside) inside;
+    restated = λ from m _ inside knows.
+        let after = reply_within core from m w inside in
+        passing_keeps (after_reply core from m) range m _ after (number_within g _ m.dip (join_reply_within g (after_reply core from m).rt m.dip m.oip after.table));
+    withdrawn = λ from dests inside knows none.
+        retract_within (after_hearing core from) _ (hearing_within core from w) (accepted_within g (after_hearing core from).rt from dests inside);
+  }
+    where
+      both : {a b : ℕ} → a ≤ g → b ≤ g → max a b ≤ g
+      both x y = omega arith
 
   turn_keeps : (core : Core) (range : NodeIds) (item : Item) → IsCoreWithin g ip core → IsItemWithin g item → KnowsOwn ip core item → Keeps g ip (after_learning core item).rt (turn core range item)
-  turn_keeps core range (New b d) w inside knows = on_new_keeps core b d w
-  turn_keeps core range (Heard from (Pkt b d o)) w inside knows = on_pkt_keeps core range b d o w
-  turn_keeps core range (Heard from (Rreq m)) w inside knows = on_rreq_keeps core range from m w inside knows
-  turn_keeps core range (Heard from (Rrep m)) w inside knows = on_rrep_keeps core range from m w inside
-  turn_keeps core range (Heard from (Rerr dests)) w inside knows = on_rerr_keeps core from dests w inside
-
-  drop_if_sent_keeps : (rt : Table) (reaction : Reaction) (d : ℕ) → Keeps g ip rt reaction → Keeps g ip rt (drop_if_sent reaction d)
-  drop_if_sent_keeps rt reaction d keeps =
-      if_case (Keeps g ip rt) (is_some (reaction.effect).broken) reaction (record reaction { core = record (reaction.core) { store = drop (reaction.core).store d } })
-      (λ _. keeps)
-      (λ _ none. let p : IsReactionWithin g ip reaction = keeps none in let w : IsCoreWithin g ip reaction.core = p.core in record { core = record { named = w.named; own = w.own; table = w.table; ids = w.ids }; cast = p.cast })
+  turn_keeps core range item w = turn_cases core range (λ item did. IsItemWithin g item → KnowsOwn ip core item → Keeps g ip (after_learning core item).rt did) (keeps core range w) item
 
   send_keeps : (core : Core) (range : NodeIds) (d : ℕ) → IsCoreWithin g ip core → Keeps g ip core.rt (send core range d)
-  unfolding send
   send_keeps core range d w =
-      drop_if_sent_keeps core.rt (unicast core (Pkt (first_body (bodies_in (maps.get core.store d))) d core.ip) (nhop core.rt d) range) d
-      (unicast_keeps core (Pkt (first_body (bodies_in (maps.get core.store d))) d core.ip) (nhop core.rt d) range w tt)
+      send_cases (Keeps g ip core.rt) core range d
+      (λ _ _. record { core = record { named = w.named; own = w.own; table = w.table; ids = w.ids }; cast = tt })
+      (broken_keeps core (nhop core.rt d) w)
 
   -- a new id is within the new number
   fresh_within : (variant : Variant) (core : Core) → IsCoreWithin g ip core → 1 ≤ core.sn → fresh_id variant core ≤ inc core.sn

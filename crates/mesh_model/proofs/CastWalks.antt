@@ -1,6 +1,6 @@
 -- What a turn, a send or a request casts has the walk that `sent_list` and `own_list` state for it.
-use Rattle.std.proofs.Common.{◌≡◌, ◌≢◌, ◌⊎◌, ℕ, ◌+◌, ◌≤◌, Bool, true, false, ◌||◌, not, ◌==◌, List, [], ◌∷◌, length, Some, None, Option, refl, ap, sym, ◌∙◌, subst, arith, inl, inr}
-use Rattle.std.specs.Prelude.{⊤, if◌then◌else◌, max, is_some}
+use Rattle.std.proofs.Common.{◌≡◌, ◌≢◌, ◌⊎◌, ℕ, ◌+◌, ◌≤◌, true, false, ◌||◌, ◌==◌, List, [], ◌∷◌, length, Some, None, Option, refl, ap, sym, ◌∙◌, subst, arith, inl, inr}
+use Rattle.std.specs.Prelude.{⊤, max}
 use Rattle.std.specs.List.{AllByRecursion}
 use Rattle.std.proofs.lemmas.Bool.{eqb-true}
 use Rattle.std.proofs.lemmas.Bool.Decides.{nat_tests}
@@ -16,10 +16,10 @@ use Rattle.aodv_model.proofs.Entries.{if_case}
 use Rattle.aodv_model.proofs.Lookups.{get-update}
 use Rattle.aodv_model.proofs.PairLaws.{pair_cmp_total}
 use Rattle.aodv_model.proofs.Readings.{join_answer_alike, join_reply_alike, known_number, valid_flag}
-use Rattle.aodv_model.specs.Cores.{Body, Core, Message, Pkt, Rerr, RouteReply, RouteRequest, Rrep, Rreq, add, bodies_in, drop, has_seen}
-use Rattle.aodv_model.specs.Handlers.{All, Cast, Many, Nothing, One, Reaction, after_hearing, after_reply, after_request, ask, broken_by, can_answer, casting, is_stale, data_error, delivering, error_cast, first_body, forward_own_entry, forward_reply, forward_request, fresh_id, is_empty, is_error, join_answer_precursors, join_reply_precursors, key_of, link_broken, losing, losing_if_broken, on_message, on_new, on_new_rreq, on_pkt, on_rerr, on_rrep, on_rreq, only, plain, precs_of, reply_for_self, reply_from_table, reply_on, retract, route_entry, send, unicast, with_precs}
+use Rattle.aodv_model.specs.Cores.{Body, Core, Message, Pkt, Rerr, RouteReply, RouteRequest, Rrep, Rreq, add, has_seen, Item, New, Heard}
+use Rattle.aodv_model.specs.Handlers.{All, Cast, Many, Nothing, One, Reaction, after_hearing, after_reply, after_request, ask, broken_by, can_answer, is_stale, delivering, error_cast, forward_own_entry, forward_reply, forward_request, fresh_id, join_answer_precursors, join_reply_precursors, key_of, link_broken, on_message, on_new, on_rerr, only, plain, reply_for_self, reply_from_table, retract, route_entry, send, unicast}
 use Rattle.aodv_model.specs.Pairs.{Pairs, pair_cmp}
-use Rattle.aodv_model.specs.Tables.{Dests, Table, accepted_unreachable, dhops, entry_after, hops_in, in_vD, is_valid_in, merge, nhop, number_in, sqn, sqnf, status_in, unreachable_by, update}
+use Rattle.aodv_model.specs.Tables.{Dests, Table, dhops, entry_after, hops_in, in_vD, is_valid_in, merge, nhop, number_in, sqn, sqnf, status_in, unreachable_by, update}
 use Rattle.mesh_base.specs.Members.{NodeIds}
 use Rattle.mesh_base.specs.declared.events.Variant.{Variant}
 use Rattle.mesh_base.specs.declared.events.Variant.TheVariants.{Base, Error, Number, Reply}
@@ -32,6 +32,7 @@ use Rattle.mesh_model.specs.Trails.{Around, IsAbsent, IsBackedWalk, front}
 use Rattle.mesh_model.specs.Worlds.{are_linked}
 use Rattle.mesh_model.specs.Held.{EntriesHold, IsEntryWalk, IsRequestWalk, MessageHolds}
 use Rattle.mesh_model.specs.Kept.{entries_after, own_list, sent_list}
+use Rattle.aodv_model.proofs.Reactions.{unicast_case, error_case, data_error_case, ReactionCases, turn_cases, send_cases}
 
 -- ---- what a node knows of a walk
 
@@ -135,11 +136,7 @@ plain_holds a core list (Many s m) is = plain_sent a core m (list m) is
 plain_holds a core list (All m) is = plain_sent a core m (list m) is
 
 error_plain : (variant : Variant) (rt : Table) (dests : Dests) → IsPlainCast (error_cast variant rt dests)
-unfolding error_cast
-error_plain variant rt dests =
-    if_case IsPlainCast (is_error variant) (if maps.len dests == 0 then Nothing else All (Rerr dests)) (if is_empty (precs_of rt dests) then Nothing else Many (precs_of rt dests) (Rerr (with_precs rt dests)))
-    (λ _. if_case IsPlainCast (maps.len dests == 0) Nothing (All (Rerr dests)) (λ _. tt) (λ _. tt))
-    (λ _. if_case IsPlainCast (is_empty (precs_of rt dests)) Nothing (Many (precs_of rt dests) (Rerr (with_precs rt dests))) (λ _. tt) (λ _. tt))
+error_plain variant rt dests = error_case IsPlainCast variant rt dests tt (λ _. tt) (λ _. tt)
 
 retract_holds : (a : Around) (list : Message → List ℕ) (core : Core) (dests : Dests) → CastHolds a (retract core dests).core list ((retract core dests).effect).cast
 unfolding retract
@@ -156,16 +153,9 @@ abbrev pub Tells : Around → ℕ → ℕ → Message → List ℕ → (ℕ → 
 Tells a x y m l walks did =
     EntriesHold a x (did.core).rt (entries_after x y m l (did.core).rt walks) → CastHolds a did.core (sent_list x (entries_after x y m l (did.core).rt walks) m l) (did.effect).cast
 
-only_tells : (a : Around) (x y : ℕ) (m : Message) (l : List ℕ) (walks : ℕ → List ℕ) (core : Core) → Tells a x y m l walks (only core)
-only_tells a x y m l walks core = λ all. tt
-
 unicast_tells : (a : Around) (x y : ℕ) (m : Message) (l : List ℕ) (walks : ℕ → List ℕ) (core : Core) (sent : Message) (to : ℕ) (range : NodeIds)
     → (EntriesHold a x core.rt (entries_after x y m l core.rt walks) → IsSentBy a core sent (sent_list x (entries_after x y m l core.rt walks) m l sent)) → Tells a x y m l walks (unicast core sent to range)
-unfolding unicast
-unicast_tells a x y m l walks core sent to range given =
-    if_case (Tells a x y m l walks) (sets.contains range to) (plain core (casting (One to sent))) (broken_by to (link_broken core to))
-    (λ _. given)
-    (λ _ all. broken_holds a _ core to)
+unicast_tells a x y m l walks core sent to range given = unicast_case (Tells a x y m l walks) core sent to range (λ _. given) (λ all. broken_holds a _ core to)
 
 -- a node's own valid entry is a walk that it may send
 own_sent : (a : Around) (core : Core) (d : ℕ) (walks : ℕ → List ℕ) (o : Option Entry) → maps.get core.rt d ≡ o → EntriesHold a core.ip core.rt walks → is_valid_in o ≡ true → 1 ≤ number_in o → AtLeast core.rt d (number_in o) (hops_in o) → SentBy a core d (number_in o) (hops_in o) (walks d)
@@ -182,8 +172,7 @@ own_sent a core d walks (Some e) is all valid one at =
 reply_for_self_tells : (a : Around) (y : ℕ) (m : RouteRequest) (l : List ℕ) (walks : ℕ → List ℕ) (core : Core) (range : NodeIds) → (m.dip == core.ip) ≡ true → Tells a core.ip y (Rreq m) l walks (reply_for_self core range m)
 unfolding reply_for_self
 reply_for_self_tells a y m l walks core range own =
-    unicast_tells a core.ip y (Rreq m) l walks (record core { sn = max core.sn m.dsn }) (Rrep (record { hops = 0; dip = m.dip; dsn = max core.sn m.dsn; oip = m.oip })) (nhop core.rt m.oip) range
-    (λ all. record { others = []; is = rw own refl; begins = sym (eqb-true m.dip core.ip own); long = refl })
+    unicast_tells a core.ip y (Rreq m) l walks _ _ _ range (λ all. record { others = []; is = rw own refl; begins = sym (eqb-true m.dip core.ip own); long = refl })
 
 reply_from_table_tells : (tables : ℕ → Table) (a : Around) (y : ℕ) (m : RouteRequest) (l : List ℕ) (walks : ℕ → List ℕ) (core : Core) (range : NodeIds) → IsFine tables core.rt → (m.dip == core.ip) ≡ false → can_answer core m ≡ true → Tells a core.ip y (Rreq m) l walks (reply_from_table core range y m)
 unfolding reply_from_table
@@ -192,24 +181,15 @@ reply_from_table_tells tables a y m l walks core range fine other can =
     let leads : Leads tables core.rt rt = join_answer_leads tables core.rt m.dip m.oip y fine in
     let valid : in_vD rt m.dip ≡ true = join_answer_alike is_valid_in core.rt m.dip m.oip y m.dip (λ e pre. refl) ∙ grind (arith, can) in
     let known : is_kno (sqnf rt m.dip) ≡ true = join_answer_alike (λ o. is_kno (status_in o)) core.rt m.dip m.oip y m.dip (λ e pre. refl) ∙ grind (arith, can) in
-    unicast_tells a core.ip y (Rreq m) l walks (record core { rt = rt }) (Rrep (record { hops = dhops rt m.dip; dip = m.dip; dsn = sqn rt m.dip; oip = m.oip })) (nhop rt m.oip) range
+    unicast_tells a core.ip y (Rreq m) l walks _ _ _ range
     (λ all. rw other (own_sent a (record core { rt = rt }) m.dip (entries_after core.ip y (Rreq m) l rt walks) (maps.get rt m.dip) refl all valid (known_number rt m.dip (maps.get rt m.dip) leads.fine.sound refl known) (own_at_least rt m.dip valid)))
 
-rreq_tells : (tables : ℕ → Table) (a : Around) (y : ℕ) (m : RouteRequest) (l : List ℕ) (walks : ℕ → List ℕ) (core : Core) (range : NodeIds) → IsFit tables core → IsHere a core → IsHonest (tables y) y (Rreq m) → are_linked a.ever y core.ip ≡ true
-    → IsRequestWalk a y m.oip m.osn m.hops (key_of a.variant m) l → Tells a core.ip y (Rreq m) l walks (on_rreq core range y m)
-unfolding on_rreq on_new_rreq after_request after_hearing forward_request
-rreq_tells tables a y m l walks core range fit here honest linked t =
-    let P : Reaction → Type 0 = Tells a core.ip y (Rreq m) l walks in
+forward_request_tells : (tables : ℕ → Table) (a : Around) (y : ℕ) (m : RouteRequest) (l : List ℕ) (walks : ℕ → List ℕ) (core : Core) → IsHere a core → IsHonest (tables y) y (Rreq m) → are_linked a.ever y core.ip ≡ true
+    → IsRequestWalk a y m.oip m.osn m.hops (key_of a.variant m) l → has_seen core.seen (key_of core.variant m) ≡ false → Tells a core.ip y (Rreq m) l walks (forward_request (after_request core y m) m)
+unfolding after_request after_hearing forward_request
+forward_request_tells tables a y m l walks core here honest linked t new all =
     let key = key_of core.variant m in
     let now = after_request core y m in
-    let leads : Leads tables core.rt now.rt = after_request_leads tables core y m fit.fine honest in
-    if_case P (has_seen core.seen key) (only (after_hearing core y)) (on_new_rreq now range y m)
-    (λ _ all. tt)
-    (λ new. if_case P (m.dip == core.ip) (reply_for_self now range m) (if can_answer now m then reply_from_table now range y m else forward_request now m)
-    (λ own. reply_for_self_tells a y m l walks now range own)
-    (λ other. if_case P (can_answer now m) (reply_from_table now range y m) (forward_request now m)
-    (λ can. reply_from_table_tells tables a y m l walks now range leads.fine other can)
-    (λ _ all.
     let absent : IsAbsent core.ip (y ∷ t.others) = unseen a core key (y ∷ t.others) here new (subst (λ v. AllByRecursion (λ z. has_seen (a.seen z) (key_of v m) ≡ true) (y ∷ t.others)) (sym here.variant) t.keys) in
     record {
       others = y ∷ t.others;
@@ -218,7 +198,7 @@ rreq_tells tables a y m l walks core range fit here honest linked t =
       long = let l = t.long in omega arith;
       own = subst (λ v. has_seen (sets.insert core.seen key) (key_of v (record m { hops = m.hops + 1; dsn = max (sqn now.rt m.dip) m.dsn })) ≡ true) here.variant (subst (λ k. has_seen (sets.insert core.seen key) k ≡ true) (sym (same_key core.variant m (m.hops + 1) (max (sqn now.rt m.dip) m.dsn))) (has_new core.seen key));
       keys = subst (λ k. AllByRecursion (λ z. has_seen (a.seen z) k ≡ true) (y ∷ t.others)) (sym (same_key a.variant m (m.hops + 1) (max (sqn now.rt m.dip) m.dsn))) t.keys;
-    })))
+    }
 
 -- ---- replies
 
@@ -255,6 +235,14 @@ record Says (rt : Table) (d n h : ℕ) : Type 0 where
 says_of : (rt : Table) (d n h : ℕ) (e : Entry) → maps.get rt d ≡ Some e → IsExact e n h → Says rt d n h
 says_of rt d n h e is exact = record { valid = rw (is, exact.flag) refl; number = rw is exact.dsn; hops = rw is exact.hops }
 
+-- a reply that isn't stale is what the table says of its destination afterwards
+reply_says : (core : Core) (y : ℕ) (m : RouteReply) → is_stale (after_hearing core y).rt m.dip (route_entry m.dsn m.hops y) ≡ false → Says (after_reply core y m).rt m.dip m.dsn (m.hops + 1)
+unfolding after_reply
+reply_says core y m new =
+    let near = (after_hearing core y).rt in
+    let r : Entry = route_entry m.dsn m.hops y in
+    says_of _ m.dip m.dsn (m.hops + 1) (entry_after (maps.get near m.dip) r) (updated near m.dip r) (fresh near m.dip m.dsn m.hops y (maps.get near m.dip) refl new)
+
 forward_reply_tells : (a : Around) (y : ℕ) (m : RouteReply) (l : List ℕ) (walks : ℕ → List ℕ) (core : Core) (range : NodeIds) → 1 ≤ m.dsn → Says core.rt m.dip m.dsn (m.hops + 1) → Tells a core.ip y (Rrep m) l walks (forward_reply core range m)
 unfolding forward_reply
 forward_reply_tells a y m l walks core range one says =
@@ -262,7 +250,7 @@ forward_reply_tells a y m l walks core range one says =
     let valid : in_vD rt m.dip ≡ true = join_reply_alike is_valid_in core.rt m.dip m.oip m.dip (λ e pre. refl) ∙ says.valid in
     let number : sqn rt m.dip ≡ m.dsn = join_reply_alike number_in core.rt m.dip m.oip m.dip (λ e pre. refl) ∙ says.number in
     let hops : dhops rt m.dip ≡ m.hops + 1 = join_reply_alike hops_in core.rt m.dip m.oip m.dip (λ e pre. refl) ∙ says.hops in
-    unicast_tells a core.ip y (Rrep m) l walks (record core { rt = rt }) (Rrep (record m { hops = m.hops + 1 })) (nhop rt m.oip) range
+    unicast_tells a core.ip y (Rrep m) l walks _ _ _ range
     (λ all.
     let walk : List ℕ = entries_after core.ip y (Rrep m) l rt walks m.dip in
     let sent : SentBy a (record core { rt = rt }) m.dip (sqn rt m.dip) (dhops rt m.dip) walk = own_sent a (record core { rt = rt }) m.dip (entries_after core.ip y (Rrep m) l rt walks) (maps.get rt m.dip) refl all valid (omega arith) (own_at_least rt m.dip valid) in
@@ -275,55 +263,37 @@ forward_own_entry_tells tables a y m l walks core range fine one at valid =
     let leads : Leads tables core.rt rt = join_reply_leads tables core.rt m.dip m.oip fine in
     let above : m.dsn ≤ sqn rt m.dip = at_least_number rt m.dip m.dsn (m.hops + 1) (leads.grows.keeps m.dip m.dsn (m.hops + 1) one at) in
     let valid' : in_vD rt m.dip ≡ true = join_reply_alike is_valid_in core.rt m.dip m.oip m.dip (λ e pre. refl) ∙ valid in
-    unicast_tells a core.ip y (Rrep m) l walks (record core { rt = rt }) (Rrep (record m { hops = dhops rt m.dip; dsn = sqn rt m.dip })) (nhop rt m.oip) range
+    unicast_tells a core.ip y (Rrep m) l walks _ _ _ range
     (λ all. own_sent a (record core { rt = rt }) m.dip (entries_after core.ip y (Rrep m) l rt walks) (maps.get rt m.dip) refl all valid' (omega arith) (own_at_least rt m.dip valid'))
 
-reply_tells : (tables : ℕ → Table) (a : Around) (y : ℕ) (m : RouteReply) (l : List ℕ) (walks : ℕ → List ℕ) (variant : Variant) (core : Core) (stale : Bool) (range : NodeIds) → IsFine tables core.rt → 1 ≤ m.dsn → AtLeast core.rt m.dip m.dsn (m.hops + 1)
-    → (stale ≡ false → Says core.rt m.dip m.dsn (m.hops + 1)) → Tells a core.ip y (Rrep m) l walks (reply_on variant core stale range m)
-reply_tells tables a y m l walks Base core stale range fine one at says = if_case (Tells a core.ip y (Rrep m) l walks) stale (only core) (forward_reply core range m) (λ _ all. tt) (λ e. forward_reply_tells a y m l walks core range one (says e))
-reply_tells tables a y m l walks Number core stale range fine one at says = if_case (Tells a core.ip y (Rrep m) l walks) stale (only core) (forward_reply core range m) (λ _ all. tt) (λ e. forward_reply_tells a y m l walks core range one (says e))
-reply_tells tables a y m l walks Error core stale range fine one at says = if_case (Tells a core.ip y (Rrep m) l walks) stale (only core) (forward_reply core range m) (λ _ all. tt) (λ e. forward_reply_tells a y m l walks core range one (says e))
-reply_tells tables a y m l walks Reply core stale range fine one at says = if_case (Tells a core.ip y (Rrep m) l walks) (in_vD core.rt m.dip) (forward_own_entry core range m) (only core) (λ valid. forward_own_entry_tells tables a y m l walks core range fine one at valid) (λ _ all. tt)
+-- ---- all
 
-rrep_tells : (tables : ℕ → Table) (a : Around) (y : ℕ) (m : RouteReply) (l : List ℕ) (walks : ℕ → List ℕ) (core : Core) (range : NodeIds) → IsFit tables core → IsHonest (tables y) y (Rrep m) → Tells a core.ip y (Rrep m) l walks (on_rrep core range y m)
-unfolding on_rrep after_reply after_hearing
-rrep_tells tables a y m l walks core range fit honest =
-    let P : Reaction → Type 0 = Tells a core.ip y (Rrep m) l walks in
-    let near = (after_hearing core y).rt in
-    let now = after_reply core y m in
-    let r : Entry = route_entry m.dsn m.hops y in
-    let leads : Leads tables core.rt now.rt = after_reply_leads tables core y m fit.fine honest in
-    let stale = is_stale near m.dip r in
-    if_case P ((m.oip == core.ip) || not (in_vD now.rt m.oip)) (only now) (reply_on core.variant now stale range m)
-    (λ _ all. tt)
-    (λ _. reply_tells tables a y m l walks core.variant now stale range leads.fine honest.0 (after_reply_reaches core y m)
-    (λ new. says_of now.rt m.dip m.dsn (m.hops + 1) (entry_after (maps.get near m.dip) r) (updated near m.dip r) (fresh near m.dip m.dsn m.hops y (maps.get near m.dip) refl new)))
+-- what is owed of a turn with the item
+abbrev Owes : (tables : ℕ → Table) → Around → Core → List ℕ → (ℕ → List ℕ) → Item → Reaction → Type 0
+Owes tables a core l walks (New b d) did = ⊤
+Owes tables a core l walks (Heard y m) did = IsHonest (tables y) y m → are_linked a.ever y core.ip ≡ true → MessageHolds a y m l → Tells a core.ip y m l walks did
 
--- ---- the rest
-
-rerr_tells : (a : Around) (y : ℕ) (dests : Dests) (l : List ℕ) (walks : ℕ → List ℕ) (core : Core) → Tells a core.ip y (Rerr dests) l walks (on_rerr core y dests)
-unfolding on_rerr
-rerr_tells a y dests l walks core = λ all. retract_holds a _ (after_hearing core y) (accepted_unreachable (after_hearing core y).rt y dests)
-
-data_error_holds : (a : Around) (core now : Core) (list : Message → List ℕ) (d : ℕ) → CastHolds a now list (data_error core d)
-unfolding data_error
-data_error_holds a core now list d = grind arith
-
-pkt_tells : (a : Around) (y : ℕ) (l : List ℕ) (walks : ℕ → List ℕ) (core : Core) (range : NodeIds) (b : Body) (d o : ℕ) → Tells a core.ip y (Pkt b d o) l walks (on_pkt core range b d o)
-unfolding on_pkt
-pkt_tells a y l walks core range b d o =
-    let P : Reaction → Type 0 = Tells a core.ip y (Pkt b d o) l walks in
-    if_case P (d == core.ip) (plain core delivering) (if in_vD core.rt d then losing_if_broken (unicast core (Pkt b d o) (nhop core.rt d) range) else losing (plain core (casting (data_error core d))))
-    (λ _ all. tt)
-    (λ _. if_case P (in_vD core.rt d) (losing_if_broken (unicast core (Pkt b d o) (nhop core.rt d) range)) (losing (plain core (casting (data_error core d))))
-    (λ _. unicast_tells a core.ip y (Pkt b d o) l walks core (Pkt b d o) (nhop core.rt d) range (λ all. tt))
-    (λ _ all. data_error_holds a core core _ d))
+tells : (tables : ℕ → Table) (a : Around) (core : Core) (range : NodeIds) (l : List ℕ) (walks : ℕ → List ℕ) → IsFit tables core → IsHere a core → ReactionCases core range (Owes tables a core l walks)
+unfolding after_request after_reply after_hearing on_rerr
+tells tables a core range l walks fit here = record {
+  own = λ b d _. tt;
+  stored = λ b d _. tt;
+  arrived = λ y b d o _ honest linked t all. tt;
+  forwarded = λ y b d o _ honest linked t. unicast_tells a core.ip y (Pkt b d o) l walks core (Pkt b d o) (nhop core.rt d) range (λ all. tt);
+  dropped = λ y b d o honest linked t all. data_error_case (CastHolds a core _) core d tt tt (λ _. tt);
+  known = λ y m honest linked t all. tt;
+  answered = λ y m _ own honest linked t. reply_for_self_tells a y m l walks (after_request core y m) range own;
+  vouched = λ y m _ other can honest linked t. reply_from_table_tells tables a y m l walks (after_request core y m) range (after_request_leads tables core y m fit.fine honest).fine other can;
+  flooded = λ y m new honest linked t. forward_request_tells tables a y m l walks core here honest linked t new;
+  ended = λ y m honest linked t all. tt;
+  passed = λ y m new honest linked t. forward_reply_tells a y m l walks (after_reply core y m) range honest.0 (reply_says core y m new);
+  restated = λ y m valid honest linked t.
+      forward_own_entry_tells tables a y m l walks (after_reply core y m) range (after_reply_leads tables core y m fit.fine honest).fine honest.0 (after_reply_reaches core y m) valid;
+  withdrawn = λ y dests honest linked t all. retract_holds a _ (after_hearing core y) _;
+}
 
 pub message_tells : (tables : ℕ → Table) (a : Around) (y : ℕ) (m : Message) (l : List ℕ) (walks : ℕ → List ℕ) (core : Core) (range : NodeIds) → IsFit tables core → IsHere a core → IsHonest (tables y) y m → are_linked a.ever y core.ip ≡ true → MessageHolds a y m l → Tells a core.ip y m l walks (on_message core range y m)
-message_tells tables a y (Pkt b d o) l walks core range fit here honest linked t = pkt_tells a y l walks core range b d o
-message_tells tables a y (Rreq m) l walks core range fit here honest linked t = rreq_tells tables a y m l walks core range fit here honest linked t
-message_tells tables a y (Rrep m) l walks core range fit here honest linked t = rrep_tells tables a y m l walks core range fit honest
-message_tells tables a y (Rerr dests) l walks core range fit here honest linked t = rerr_tells a y dests l walks core
+message_tells tables a y m l walks core range fit here = turn_cases core range (Owes tables a core l walks) (tells tables a core range l walks fit here) (Heard y m)
 
 -- a datum that is given casts nothing
 pub new_holds : (a : Around) (list : Message → List ℕ) (core : Core) (b : Body) (d : ℕ) → CastHolds a (on_new core b d).core list ((on_new core b d).effect).cast
@@ -338,13 +308,8 @@ abbrev IsPlainDone : Reaction → Type 0
 IsPlainDone did = IsPlainCast (did.effect).cast
 
 send_plain : (core : Core) (range : NodeIds) (d : ℕ) → IsPlainDone (send core range d)
-unfolding send unicast link_broken retract
-send_plain core range d =
-    let m : Message = Pkt (first_body (bodies_in (maps.get core.store d))) d core.ip in
-    let y = nhop core.rt d in
-    let did = unicast core m y range in
-    let sent : IsPlainDone did = if_case IsPlainDone (sets.contains range y) (plain core (casting (One y m))) (broken_by y (link_broken core y)) (λ _. tt) (λ _. error_plain core.variant core.rt (unreachable_by core.rt y)) in
-    if_case IsPlainDone (is_some (did.effect).broken) did (record did { core = record (did.core) { store = drop (did.core).store d } }) (λ _. sent) (λ _. sent)
+unfolding link_broken retract
+send_plain core range d = send_cases IsPlainDone core range d (λ _. tt) (error_plain core.variant core.rt (unreachable_by core.rt (nhop core.rt d)))
 
 pub send_holds : (a : Around) (list : Message → List ℕ) (core : Core) (range : NodeIds) (d : ℕ) → CastHolds a (send core range d).core list ((send core range d).effect).cast
 send_holds a list core range d = plain_holds a (send core range d).core list ((send core range d).effect).cast (send_plain core range d)

@@ -1,7 +1,6 @@
 -- Where the valid entries of a table come from: from the table before, or from what was heard. And
 -- that a node keeps its variant, and has seen no fewer requests.
-use Rattle.std.proofs.Common.{◌≡◌, ◌⊎◌, ℕ, ◌+◌, Bool, true, ◌||◌, not, ◌==◌, Some, None, Option, refl, ap, sym, ◌∙◌, arith, inl, inr}
-use Rattle.std.specs.Prelude.{if◌then◌else◌, is_some}
+use Rattle.std.proofs.Common.{◌≡◌, ◌⊎◌, ℕ, ◌+◌, true, ◌==◌, Some, None, Option, refl, ap, sym, ◌∙◌, arith, inl, inr}
 use Rattle.std.proofs.lemmas.Bool.Decides.{nat_tests}
 use Rattle.std.specs.FinMap as maps
 use Rattle.std.specs.FinSet as sets
@@ -10,16 +9,15 @@ use Rattle.aodv_model.specs.declared.entry.Flag.TheVariants.{Inv, Val}
 use Rattle.aodv_model.proofs.Changes.{after_by, mapped_each, update_each}
 use Rattle.aodv_model.proofs.Entries.{Same, if_case}
 use Rattle.aodv_model.proofs.Lookups.{get-add_pre, get-invalidate}
-use Rattle.aodv_model.specs.Cores.{Body, Core, Heard, Item, Message, New, Pkt, Rerr, RouteReply, RouteRequest, Rrep, Rreq, add, bodies_in, drop, has_seen}
-use Rattle.aodv_model.specs.Handlers.{One, Reaction, after_hearing, after_reply, after_request, ask, broken_by, can_answer, casting, is_stale, data_error, delivering, first_body, forward_own_entry, forward_reply, forward_request, fresh_id, join_answer_precursors, join_reply_precursors, key_of, link_broken, losing, losing_if_broken, neighbour_entry, on_message, on_new, on_new_rreq, on_pkt, on_rerr, on_rrep, on_rreq, one, only, plain, reply_for_self, reply_from_table, reply_on, retract, route_entry, send, turn, unicast}
-use Rattle.aodv_model.specs.Tables.{Dests, Table, accepted_unreachable, add_pre, in_vD, invalidate, invalidated, add_pre_at, merge, nhop, unreachable_by, update}
+use Rattle.aodv_model.specs.Cores.{Body, Core, Heard, Item, Message, New, Pkt, Rerr, RouteReply, RouteRequest, Rrep, Rreq, has_seen}
+use Rattle.aodv_model.specs.Handlers.{Reaction, after_hearing, after_reply, after_request, ask, broken_by, forward_own_entry, forward_reply, forward_request, fresh_id, join_answer_precursors, join_reply_precursors, key_of, link_broken, neighbour_entry, on_message, on_new, on_pkt, on_rerr, one, only, reply_for_self, reply_from_table, retract, route_entry, send, turn, unicast}
+use Rattle.aodv_model.specs.Tables.{Dests, Table, add_pre, invalidate, invalidated, add_pre_at, merge, nhop, unreachable_by, update}
 use Rattle.mesh_base.specs.Members.{NodeIds}
-use Rattle.mesh_base.specs.declared.events.Variant.{Variant}
-use Rattle.mesh_base.specs.declared.events.Variant.TheVariants.{Base, Error, Number, Reply}
 use Rattle.mesh_model.specs.Worlds.{is_parcel}
 use Rattle.mesh_model.specs.Kept.{is_near, is_route, is_announced}
 use Rattle.mesh_model.proofs.MeshSteps.{has_more}
 use Rattle.mesh_model.proofs.TrailTables.{near_shape, known_shape}
+use Rattle.aodv_model.proofs.Reactions.{unicast_case, turn_cases, send_cases}
 
 -- the table had an entry for q with the same number, flag, hops and next hop
 pub record Had (old : Table) (q : ℕ) (e : Entry) : Type 0 where
@@ -153,16 +151,20 @@ route_stems y m rt d n h announced =
 abbrev pub StaysIn : Core → Reaction → Type 0
 StaysIn core did = Stays core.rt (did.core).rt × ((did.core).variant ≡ core.variant) × ((did.core).seen ≡ core.seen)
 
+-- the core is as it was, but for its number and its store
+same_stays : (core : Core) → StaysIn core (only core)
+same_stays core = (stays_none core.rt, refl, refl)
+
 retract_stays : (core : Core) (dests : Dests) → StaysIn core (retract core dests)
 unfolding retract
 retract_stays core dests = (invalidate_stays core.rt dests, refl, refl)
 
+broken_stays : (core : Core) (y : ℕ) → StaysIn core (broken_by y (link_broken core y))
+unfolding link_broken
+broken_stays core y = retract_stays core (unreachable_by core.rt y)
+
 unicast_stays : (core : Core) (m : Message) (y : ℕ) (range : NodeIds) → StaysIn core (unicast core m y range)
-unfolding unicast link_broken
-unicast_stays core m y range =
-    if_case (StaysIn core) (sets.contains range y) (plain core (casting (One y m))) (broken_by y (link_broken core y))
-    (λ _. (stays_none core.rt, refl, refl))
-    (λ _. retract_stays core (unreachable_by core.rt y))
+unicast_stays core m y range = unicast_case (StaysIn core) core m y range (λ _. same_stays core) (broken_stays core y)
 
 -- the same where the table was changed first
 joined_stays : (core : Core) (rt : Table) (m : Message) (y : ℕ) (range : NodeIds) → Stays core.rt rt → StaysIn core (unicast (record core { rt = rt }) m y range)
@@ -184,59 +186,6 @@ join_reply_stays rt d o =
 
 -- ---- turns
 
-pub new_stays : (core : Core) (b : Body) (d : ℕ) → StaysIn core (on_new core b d)
-unfolding on_new
-new_stays core b d =
-    if_case (StaysIn core) (d == core.ip) (plain core delivering) (only (record core { store = add core.store d b }))
-    (λ _. (stays_none core.rt, refl, refl)) (λ _. (stays_none core.rt, refl, refl))
-
-pkt_stays : (core : Core) (range : NodeIds) (b : Body) (d o : ℕ) → StaysIn core (on_pkt core range b d o)
-unfolding on_pkt
-pkt_stays core range b d o =
-    if_case (StaysIn core) (d == core.ip) (plain core delivering) (if in_vD core.rt d then losing_if_broken (unicast core (Pkt b d o) (nhop core.rt d) range) else losing (plain core (casting (data_error core d))))
-    (λ _. (stays_none core.rt, refl, refl))
-    (λ _. if_case (StaysIn core) (in_vD core.rt d) (losing_if_broken (unicast core (Pkt b d o) (nhop core.rt d) range)) (losing (plain core (casting (data_error core d))))
-    (λ _. unicast_stays core (Pkt b d o) (nhop core.rt d) range)
-    (λ _. (stays_none core.rt, refl, refl)))
-
-reply_for_self_stays : (core : Core) (range : NodeIds) (m : RouteRequest) → StaysIn core (reply_for_self core range m)
-unfolding reply_for_self
-reply_for_self_stays core range m = unicast_stays (record core { sn = _ }) _ (nhop core.rt m.oip) range
-
-reply_from_table_stays : (core : Core) (range : NodeIds) (from : ℕ) (m : RouteRequest) → StaysIn core (reply_from_table core range from m)
-unfolding reply_from_table
-reply_from_table_stays core range from m =
-    let rt = join_answer_precursors core.rt m.dip m.oip from in
-    joined_stays core rt _ (nhop rt m.oip) range (join_answer_stays core.rt m.dip m.oip from)
-
-new_rreq_stays : (core : Core) (range : NodeIds) (from : ℕ) (m : RouteRequest) → StaysIn core (on_new_rreq core range from m)
-unfolding on_new_rreq forward_request
-new_rreq_stays core range from m =
-    if_case (StaysIn core) (m.dip == core.ip) (reply_for_self core range m) (if can_answer core m then reply_from_table core range from m else forward_request core m)
-    (λ _. reply_for_self_stays core range m)
-    (λ _. if_case (StaysIn core) (can_answer core m) (reply_from_table core range from m) (forward_request core m)
-    (λ _. reply_from_table_stays core range from m)
-    (λ _. (stays_none core.rt, refl, refl)))
-
-forward_reply_stays : (core : Core) (range : NodeIds) (m : RouteReply) → StaysIn core (forward_reply core range m)
-unfolding forward_reply
-forward_reply_stays core range m =
-    let rt = join_reply_precursors core.rt m.dip m.oip in joined_stays core rt _ (nhop rt m.oip) range (join_reply_stays core.rt m.dip m.oip)
-
-forward_own_entry_stays : (core : Core) (range : NodeIds) (m : RouteReply) → StaysIn core (forward_own_entry core range m)
-unfolding forward_own_entry
-forward_own_entry_stays core range m =
-    let rt = join_reply_precursors core.rt m.dip m.oip in joined_stays core rt _ (nhop rt m.oip) range (join_reply_stays core.rt m.dip m.oip)
-
-fresh_stays : (core : Core) (stale : Bool) (range : NodeIds) (m : RouteReply) → StaysIn core (if stale then only core else forward_reply core range m)
-fresh_stays core stale range m = if_case (StaysIn core) stale (only core) (forward_reply core range m) (λ _. (stays_none core.rt, refl, refl)) (λ _. forward_reply_stays core range m)
-
-reply_on_stays : (v : Variant) (core : Core) (stale : Bool) (range : NodeIds) (m : RouteReply) → StaysIn core (reply_on v core stale range m)
-reply_on_stays Base core stale range m = fresh_stays core stale range m
-reply_on_stays Number core stale range m = fresh_stays core stale range m
-reply_on_stays Error core stale range m = fresh_stays core stale range m
-reply_on_stays Reply core stale range m = if_case (StaysIn core) (in_vD core.rt m.dip) (forward_own_entry core range m) (only core) (λ _. forward_own_entry_stays core range m) (λ _. (stays_none core.rt, refl, refl))
-
 -- the variant is as before, and whatever was seen is seen
 abbrev pub StaysSeen : Core → Core → Type 0
 StaysSeen core now = (now.variant ≡ core.variant) × ((key : ℕ × ℕ) → has_seen core.seen key ≡ true → has_seen now.seen key ≡ true)
@@ -253,58 +202,66 @@ stems_from y m core now did first seen t =
     let more = seen_stays now did t in
     (stems_then y m core.rt now.rt (did.core).rt first (stems_of y m now.rt (did.core).rt t.0), (more.0 ∙ seen.0, λ key e. more.1 key (seen.1 key e)))
 
-rreq_stems : (core : Core) (range : NodeIds) (y : ℕ) (m : RouteRequest) → StemsIn y (Rreq m) core (on_rreq core range y m)
-unfolding on_rreq after_request after_hearing
-rreq_stems core range y m =
+request_stems : (core : Core) (y : ℕ) (m : RouteRequest) (did : Reaction) → StaysIn (after_request core y m) did → StemsIn y (Rreq m) core did
+unfolding after_request after_hearing
+request_stems core y m did =
     let near = (after_hearing core y).rt in
     let now = after_request core y m in
-    let key = key_of core.variant m in
-    let first : Stems y (Rreq m) core.rt near = hearing_stems (Rreq m) core.rt y in
-    if_case (StemsIn y (Rreq m) core) (has_seen core.seen key) (only (after_hearing core y)) (on_new_rreq now range y m)
-    (λ _. (first, (refl, λ q e. e)))
-    (λ _. stems_from y (Rreq m) core now (on_new_rreq now range y m)
-    (stems_then y (Rreq m) core.rt near now.rt first (route_stems y (Rreq m) near m.oip m.osn m.hops (λ e t. t))) (refl, λ q e. has_more core.seen key q e)
-    (new_rreq_stays now range y m))
+    stems_from y (Rreq m) core now did
+    (stems_then y (Rreq m) core.rt near now.rt (hearing_stems (Rreq m) core.rt y) (route_stems y (Rreq m) near m.oip m.osn m.hops (λ e t. t))) (refl, λ q e. has_more core.seen (key_of core.variant m) q e)
 
-rrep_stems : (core : Core) (range : NodeIds) (y : ℕ) (m : RouteReply) → StemsIn y (Rrep m) core (on_rrep core range y m)
-unfolding on_rrep after_reply after_hearing
-rrep_stems core range y m =
+reply_stems : (core : Core) (y : ℕ) (m : RouteReply) (did : Reaction) → StaysIn (after_reply core y m) did → StemsIn y (Rrep m) core did
+unfolding after_reply after_hearing
+reply_stems core y m did =
     let near = (after_hearing core y).rt in
     let now = after_reply core y m in
-    let first : Stems y (Rrep m) core.rt now.rt = stems_then y (Rrep m) core.rt near now.rt (hearing_stems (Rrep m) core.rt y) (route_stems y (Rrep m) near m.dip m.dsn m.hops (λ e t. t)) in
-    let stale = is_stale near m.dip (route_entry m.dsn m.hops y) in
-    if_case (StemsIn y (Rrep m) core) ((m.oip == core.ip) || not (in_vD now.rt m.oip)) (only now) (reply_on core.variant now stale range m)
-    (λ _. (first, (refl, λ q e. e)))
-    (λ _. stems_from y (Rrep m) core now (reply_on core.variant now stale range m) first (refl, λ q e. e) (reply_on_stays core.variant now stale range m))
+    stems_from y (Rrep m) core now did (stems_then y (Rrep m) core.rt near now.rt (hearing_stems (Rrep m) core.rt y) (route_stems y (Rrep m) near m.dip m.dsn m.hops (λ e t. t))) (refl, λ q e. e)
 
-rerr_stems : (core : Core) (y : ℕ) (dests : Dests) → StemsIn y (Rerr dests) core (on_rerr core y dests)
-unfolding on_rerr after_hearing
-rerr_stems core y dests =
-    let now = after_hearing core y in
-    let lost = accepted_unreachable now.rt y dests in
-    stems_from y (Rerr dests) core now (retract now lost) (hearing_stems (Rerr dests) core.rt y) (refl, λ q e. e) (retract_stays now lost)
+-- a datum, given or heard, changes no route
+abbrev StaysOrStems : Core → Item → Reaction → Type 0
+StaysOrStems core (New b d) did = StaysIn core did
+StaysOrStems core (Heard y (Pkt b d o)) did = StaysIn core did
+StaysOrStems core (Heard y (Rreq m)) did = StemsIn y (Rreq m) core did
+StaysOrStems core (Heard y (Rrep m)) did = StemsIn y (Rrep m) core did
+StaysOrStems core (Heard y (Rerr dests)) did = StemsIn y (Rerr dests) core did
+
+turn_stems : (core : Core) (range : NodeIds) (item : Item) → StaysOrStems core item (turn core range item)
+unfolding after_hearing reply_for_self reply_from_table forward_request forward_reply forward_own_entry on_rerr
+turn_stems core range = turn_cases core range (StaysOrStems core) (record {
+  own = λ b d _. same_stays core;
+  stored = λ b d _. same_stays core;
+  arrived = λ y b d o _. same_stays core;
+  forwarded = λ y b d o _. unicast_stays core (Pkt b d o) (nhop core.rt d) range;
+  dropped = λ y b d o. same_stays core;
+  known = λ y m. (hearing_stems (Rreq m) core.rt y, (refl, λ q e. e));
+  answered = λ y m _ _. request_stems core y m (reply_for_self (after_request core y m) range m) (unicast_stays (record (after_request core y m) { sn = _ }) _ _ range);
+  vouched = λ y m _ _ _. request_stems core y m (reply_from_table (after_request core y m) range y m) (joined_stays (after_request core y m) _ _ _ range (join_answer_stays _ m.dip m.oip y));
+  flooded = λ y m _. request_stems core y m (forward_request (after_request core y m) m) (same_stays (after_request core y m));
+  ended = λ y m. reply_stems core y m (only (after_reply core y m)) (same_stays (after_reply core y m));
+  passed = λ y m _. reply_stems core y m (forward_reply (after_reply core y m) range m) (joined_stays (after_reply core y m) _ _ _ range (join_reply_stays _ m.dip m.oip));
+  restated = λ y m _. reply_stems core y m (forward_own_entry (after_reply core y m) range m) (joined_stays (after_reply core y m) _ _ _ range (join_reply_stays _ m.dip m.oip));
+  withdrawn = λ y dests. stems_from y (Rerr dests) core (after_hearing core y) (on_rerr core y dests) (hearing_stems (Rerr dests) core.rt y) (refl, λ q e. e) (retract_stays (after_hearing core y) _);
+})
+
+pub new_stays : (core : Core) (b : Body) (d : ℕ) → StaysIn core (on_new core b d)
+new_stays core b d = turn_stems core sets.empty (New b d)
 
 pub message_stems : (core : Core) (range : NodeIds) (y : ℕ) (m : Message) → StemsIn y m core (on_message core range y m)
 message_stems core range y (Pkt b d o) =
-    let t = pkt_stays core range b d o in (stems_of y (Pkt b d o) core.rt _ t.0, seen_stays core (on_pkt core range b d o) t)
-message_stems core range y (Rreq m) = rreq_stems core range y m
-message_stems core range y (Rrep m) = rrep_stems core range y m
-message_stems core range y (Rerr dests) = rerr_stems core y dests
+    let t = turn_stems core range (Heard y (Pkt b d o)) in (stems_of y (Pkt b d o) core.rt _ t.0, seen_stays core (on_pkt core range b d o) t)
+message_stems core range y (Rreq m) = turn_stems core range (Heard y (Rreq m))
+message_stems core range y (Rrep m) = turn_stems core range (Heard y (Rrep m))
+message_stems core range y (Rerr dests) = turn_stems core range (Heard y (Rerr dests))
 
 -- a data packet changes no route
 pub parcel_stays : (core : Core) (range : NodeIds) (y : ℕ) (m : Message) → is_parcel m ≡ true → Stays core.rt (on_message core range y m).core.rt
-parcel_stays core range y (Pkt b d o) is = (pkt_stays core range b d o).0
+parcel_stays core range y (Pkt b d o) is = (turn_stems core range (Heard y (Pkt b d o))).0
 parcel_stays core range y (Rreq m) is = cc
 parcel_stays core range y (Rrep m) is = cc
 parcel_stays core range y (Rerr dests) is = cc
 
 pub send_stays : (core : Core) (range : NodeIds) (d : ℕ) → StaysIn core (send core range d)
-unfolding send
-send_stays core range d =
-    let did = unicast core (Pkt (first_body (bodies_in (maps.get core.store d))) d core.ip) (nhop core.rt d) range in
-    let stays = unicast_stays core (Pkt (first_body (bodies_in (maps.get core.store d))) d core.ip) (nhop core.rt d) range in
-    if_case (StaysIn core) (is_some (did.effect).broken) did (record did { core = record (did.core) { store = drop (did.core).store d } })
-    (λ _. stays) (λ _. stays)
+send_stays core range d = send_cases (StaysIn core) core range d (λ _. same_stays core) (broken_stays core (nhop core.rt d))
 
 pub ask_stays : (core : Core) (d : ℕ) → Stays core.rt (ask core d).core.rt
 unfolding ask
