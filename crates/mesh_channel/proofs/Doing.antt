@@ -1,6 +1,6 @@
 -- Events that are done one after another: those that the channel chooses, and those that are left to do.
-use Rattle.std.proofs.Common.{◌≡◌, ◌∙◌, ℕ, zero, suc, ◌+◌, ◌-◌, ◌*◌, ◌<◌, ◌≤◌, ◌⊎◌, inl, inr, Bool, List, [], ◌∷◌, ◌++◌, Option, Some, None, Result, Ok, Err, length, drop, refl, sym, ap, subst, arith}
-use Rattle.std.specs.Prelude.{slice_get}
+use Rattle.std.proofs.Common.{◌≡◌, ◌∙◌, ℕ, zero, suc, ◌+◌, ◌-◌, ◌*◌, ◌<◌, ◌≤◌, ◌⊎◌, inl, inr, Bool, true, List, [], ◌∷◌, ◌++◌, Option, Some, None, Result, Ok, Err, length, drop, refl, sym, ap, subst, arith}
+use Rattle.std.specs.Prelude.{slice_get, is_some}
 use Rattle.std.specs.Io.KnownBytes.{Appends}
 use Rattle.mesh_base.specs.declared.limits.TheConstants.{MOST_NODES}
 use Rattle.mesh_io.specs.Puts.{AppendsPrefix}
@@ -13,18 +13,21 @@ use Rattle.mesh_text.specs.Auto.{EventsOutcome, Ended, Full as EventsFull, done_
 use Rattle.mesh_text.specs.Text.{On, Full}
 use Rattle.mesh_run.specs.declared.stop.Stop.{Stop}
 use Rattle.mesh_run.specs.declared.stop.Stop.TheVariants as stop
-use Rattle.mesh_run.specs.Runs.{output_if, IsLineDone, IsLineStopped, outcome_by, IsEventsDone, IsEventsRun, text_of}
+use Rattle.mesh_run.specs.Outputs.{says_lines}
+use Rattle.mesh_run.specs.Runs.{output_if, IsLineDone, IsLineStopped, outcome_by, line_outcome_at, IsEventsDone, IsEventsRun, text_of}
+use Rattle.mesh_run.proofs.Events.{stepped_started, stepped_mesh, stepped_lines, stepped_steps}
 use Rattle.mesh_run.proofs.Shown.{shown_none}
 use Rattle.mesh_run.proofs.Chosen.{one_less, on_then, on_stops, full_stops}
 use Rattle.mesh_fates.specs.declared.rates.Rates.{Rates}
 use Rattle.mesh_fates.specs.Left.{IsNumbered}
 use Rattle.mesh_fates.specs.Channels.{Channel, after_chosen}
 use Rattle.mesh_channel.specs.declared.until.Until.{Until}
+use Rattle.mesh_channel.specs.declared.until.TheConstants.{LAST_TICK}
 use Rattle.mesh_channel.specs.Choices.{Choice, Chosen, Nothing, next_choice}
 use Rattle.mesh_channel.specs.Chosen.{Drawn, none, before, event_then, choice_then, chosen_from}
 use Rattle.mesh_channel.specs.RunStates.{choice_of, IsLeftBehind, run_state_of, moved}
 use Rattle.mesh_channel.specs.declared.channeled.Channeled.{Channeled}
-use Rattle.mesh_channel.specs.Room.{most_left}
+use Rattle.mesh_channel.specs.Room.{most_left, HasFewCopies}
 use Rattle.mesh_channel.proofs.InMesh.{IsOfLeft}
 use Rattle.mesh_channel.proofs.Numbers.{quiet_of_left}
 
@@ -239,3 +242,101 @@ left_kept i c k same is = is ∙ ap (λ (x : Channel). record x { left = drop 1 
 
 pub left_over : (i c k : Channel) → c ≡ record i { left = c.left } → k ≡ record c { left = drop 1 c.left } → c.left ≡ [] → k ≡ record i { left = [] }
 left_over i c k same is none = is ∙ ap (λ (x : Channel). record x { left = drop 1 c.left }) same ∙ ap (λ (l : List Event). record i { left = drop 1 l }) none
+
+-- ---- what stands before each turn of the loops
+
+-- from the state i of a run to the state p: whatever is told of the events that are left there, the same then is of all of them
+abbrev pub LeftSoFar : Channeled → Channeled → Option (List ℕ) → Option (List ℕ) → ℕ → ℕ → Type 0
+LeftSoFar i p a b f g = record {
+  ran : (now : Option (List ℕ)) (n : RunState) (r : Result ℕ Stop)
+      → IsEventsRun (says_lines i.say) p.point (outcome_of_events p.point p.channel.left) n b now r
+      → IsEventsRun (says_lines i.say) i.point (outcome_of_events i.point i.channel.left) n a now r;
+  channel : p.channel ≡ record i.channel { left = p.channel.left };
+  only : p ≡ moved i (run_state_of p);
+  some : 1 ≤ length p.point.mesh;
+  started : is_some p.point.world ≡ true;
+  lines : p.point.lines ≡ i.point.lines;
+  faults : g ≡ f;
+  steps : p.point.steps + length p.channel.left ≡ i.point.steps + length i.channel.left;
+  copies : HasFewCopies p.point;
+}
+
+-- the first of them is taken at q and done at r
+pub left_goes_on : (i p q r : Channeled) (e : Event) (o : Option Event) (a b x : Option (List ℕ)) (f g h : ℕ) → LeftSoFar i p a b f g
+    → q ≡ record p { channel = q.channel } → q.channel ≡ record p.channel { left = drop 1 p.channel.left } → o ≡ slice_get p.channel.left 0 → o ≡ Some e
+    → r ≡ record q { point = r.point } → IsLineDone (says_lines q.say) (line_outcome_at q.point e) r.point b x → r.point ≡ next_state q.point e
+    → h ≡ g → HasFewCopies r.point → LeftSoFar i r a x f h
+left_goes_on i p q r e o a b x f g h so_far taken rest first is only comes next faults copies =
+    let told : says_lines q.say ≡ says_lines i.say = ap (λ (y : Channeled). says_lines y.say) taken ∙ ap (λ (y : Channeled). says_lines y.say) so_far.only in
+    let here = subst (λ (s : Bool). IsLineDone s (line_outcome_at q.point e) r.point b x) told comes in
+    let at_q : q.point ≡ p.point = ap (λ (y : Channeled). y.point) taken in
+    let done = subst (λ (m : RunState). IsLineDone (says_lines i.say) (line_outcome_at m e) r.point b x) at_q here in
+    let kept : r.channel ≡ record p.channel { left = drop 1 p.channel.left } = ap (λ (y : Channeled). y.channel) only ∙ rest in
+    let steps = stepped_steps q.point r.point e next in
+    let steps_kept = ap (λ (y : Channeled). y.point.steps) taken in
+    let one = left_one p.channel.left e o is first in
+    let less = ap (λ (y : Channel). length y.left) kept in
+    let size = ap (λ (m : RunState). length m.mesh) at_q in
+    let size_kept = ap length (stepped_mesh q.point r.point e next) in
+    record {
+      ran = λ now n t others. so_far.ran now n t
+          (left_goes (says_lines i.say) p.point r.point n e p.channel.left r.channel.left o b x now t is first (ap (λ (y : Channel). y.left) kept) done others);
+      channel = left_kept i.channel p.channel r.channel so_far.channel kept;
+      only = moved_on i p r so_far.only (moved_on p q r (moved_channel p q taken) (moved_point q r only));
+      some = omega (arith, size, size_kept, so_far.some);
+      started = stepped_started q.point r.point e next;
+      lines = stepped_lines q.point r.point e next ∙ ap (λ (m : RunState). m.lines) at_q ∙ so_far.lines;
+      faults = faults ∙ so_far.faults;
+      steps = omega (arith, steps, steps_kept, one, less, so_far.steps);
+      copies = copies;
+    }
+
+-- the same, where the channel chooses the events: `did` of at most `most` are done
+abbrev pub ChosenSoFar : Until → ℕ → Channeled → Channeled → ℕ → Option (List ℕ) → Option (List ℕ) → ℕ → ℕ → Type 0
+ChosenSoFar until most i p did a b f g = record {
+  ran : (now : Option (List ℕ)) (n : RunState) (r : Result ℕ Stop)
+      → IsEventsRun (says_lines i.say) p.point (outcome_of_events p.point (chosen_from (most - did) i.rates until did p.point p.channel).events) n b now r
+      → IsEventsRun (says_lines i.say) i.point (outcome_of_events i.point (chosen_from most i.rates until 0 i.point i.channel).events) n a now r;
+  channel : (chosen_from (most - did) i.rates until did p.point p.channel).channel ≡ (chosen_from most i.rates until 0 i.point i.channel).channel;
+  only : p ≡ moved i (run_state_of p);
+  started : is_some p.point.world ≡ true;
+  lines : p.point.lines ≡ i.point.lines;
+  faults : g ≡ f;
+  within : did ≤ most;
+  steps : p.point.steps ≡ i.point.steps + did;
+  tick : p.channel.tick ≤ LAST_TICK;
+  left : length p.channel.left ≤ most_left;
+  copies : HasFewCopies p.point;
+}
+
+-- one more is chosen at q and done at r, and channel k is what is decided of its copies
+pub chosen_goes_on : (until : Until) (most did : ℕ) (i p q r : Channeled) (k : Channel) (e : Event) (o : Option Event) (a b x : Option (List ℕ)) (f g h : ℕ) → ChosenSoFar until most i p did a b f g
+    → did < most → q ≡ record p { channel = q.channel } → choice_of o q.channel ≡ next_choice until did (world_of p.point) p.channel → IsLeftBehind p.channel o q.channel → q.channel.tick ≤ LAST_TICK → o ≡ Some e
+    → r ≡ record q { point = r.point } → IsLineDone (says_lines q.say) (line_outcome_at q.point e) r.point b x → r.point ≡ next_state q.point e → h ≡ g → HasFewCopies r.point
+    → k ≡ after_chosen r.rates (world_of q.point) (outcome_at q.point e) r.channel → k.tick ≡ r.channel.tick → length k.left ≤ length r.channel.left + 3 * MOST_NODES
+    → ChosenSoFar until most i (record r { channel = k }) (did + 1) a x f h
+chosen_goes_on until most did i p q r k e o a b x f g h so_far more taken value behind tick is only comes next faults copies decided still few =
+    let say = says_lines i.say in
+    let z : Channeled = record r { channel = k } in
+    let told : says_lines q.say ≡ say = ap (λ (y : Channeled). says_lines y.say) taken ∙ ap (λ (y : Channeled). says_lines y.say) so_far.only in
+    let rated : r.rates ≡ i.rates = ap (λ (y : Channeled). y.rates) only ∙ ap (λ (y : Channeled). y.rates) taken ∙ ap (λ (y : Channeled). y.rates) so_far.only in
+    let done = subst (λ (s : Bool). IsLineDone s (line_outcome_at q.point e) r.point b x) told comes in
+    let then = decided ∙ ap (λ (y : Rates). after_chosen y (world_of q.point) (outcome_at q.point e) r.channel) rated in
+    let s = stepped say i.rates p q r z e b x taken only refl done next then in
+    let steps = stepped_steps q.point r.point e next in
+    let steps_kept = ap (λ (y : Channeled). y.point.steps) taken in
+    let left_same = ap (λ (y : Channeled). length y.channel.left) only in
+    let tick_same = ap (λ (y : Channeled). y.channel.tick) only in
+    record {
+      ran = λ now n t others. so_far.ran now n t (chosen_ran say most did i.rates until p.point z.point n p.channel q.channel z.channel e o b x now t more is value s.done s.next s.then others);
+      channel = chosen_channel say most did i.rates until p.point z.point p.channel q.channel z.channel e o b x more is value s.done s.next s.then ∙ so_far.channel;
+      only = moved_on i p z so_far.only s.only;
+      started = stepped_started q.point r.point e next;
+      lines = stepped_lines q.point r.point e next ∙ ap (λ (y : Channeled). y.point.lines) taken ∙ so_far.lines;
+      faults = faults ∙ so_far.faults;
+      within = omega (arith, more);
+      steps = omega (arith, steps, steps_kept, so_far.steps);
+      tick = omega (arith, tick, tick_same, still);
+      left = left_few i.rates p.point e p.channel q.channel z.channel (subst (λ (y : Option Event). IsLeftBehind p.channel y q.channel) is behind) so_far.left s.then (omega (arith, left_same, few));
+      copies = copies;
+    }

@@ -1,21 +1,17 @@
-use Rattle.std.proofs.Common.{◌≡◌, ◌∙◌, ◌-◌, ◌+◌, Bool, List, ℕ, Option, Some, None, Ok, Err, length, refl, sym, ap, subst, arith}
+use Rattle.std.proofs.Common.{◌≡◌, ◌∙◌, ◌-◌, ◌+◌, Bool, List, ℕ, Some, None, Ok, Err, refl, sym, ap, subst}
 use Rattle.std.specs.Prelude.{option_map}
 use Rattle.std.proofs.lemmas.Result.{err_from_is_err_and}
 use Rattle.mesh_base.specs.declared.limits.TheConstants.{MOST_NODES}
 use Rattle.mesh_meaning.specs.Events.{event_of}
-use Rattle.mesh_model.specs.Worlds.{Event}
-use Rattle.mesh_text.specs.Schedule.{RunState, world_of, next_state, outcome_at}
+use Rattle.mesh_text.specs.Schedule.{RunState, next_state}
 use Rattle.mesh_text.specs.Auto.{outcome_of_events}
 use Rattle.mesh_run.specs.Outputs.{says_lines}
 use Rattle.mesh_run.specs.Runs.{IsEventsDone, IsLineDone, IsLineStopped, line_outcome_at}
 use Rattle.mesh_run.specs.declared.stop.Stop.TheVariants as stop
-use Rattle.mesh_run.proofs.Events.{stepped_started, stepped_lines, stepped_steps}
-use Rattle.mesh_fates.specs.declared.rates.Rates.{Rates}
-use Rattle.mesh_fates.specs.Channels.{after_chosen}
 use Rattle.mesh_channel.specs.Chosen.{chosen_from}
-use Rattle.mesh_channel.specs.RunStates.{run_state_of, IsLeftBehind}
+use Rattle.mesh_channel.specs.RunStates.{run_state_of}
 use Rattle.mesh_channel.specs.declared.channeled.Channeled.{Channeled}
-use Rattle.mesh_channel.proofs.Doing.{chosen_all, chosen_none, chosen_ran, chosen_channel, chosen_stops, chosen_breaks, ended_ran, moved_on, moved_channel, moved_point, left_few, stepped, stopped}
+use Rattle.mesh_channel.proofs.Doing.{chosen_all, chosen_none, chosen_stops, chosen_breaks, ended_ran, moved_on, moved_channel, moved_point, stopped, chosen_goes_on}
 use Rattle.mesh_channel.proofs.chosen.do_events.Goals as goal
 
 pub returns-in_default-clause-ran : goal.returns-in_default-clause-ran
@@ -87,443 +83,80 @@ returns-in_err-after_chosen-clause-only g c =
 
 pub events-preserved : goal.events-preserved
 events-preserved g c =
-    let p = c.events.at in
-    let q = c.choose.new.at in
-    let r = c.do_event.new.at in
-    let say = says_lines c.args.at.now.say in
-    let rates = c.args.at.now.rates in
-    let e = event_of c.in-Some.event in
-    let o = option_map event_of c.choose.result in
-    let is = ap (option_map event_of) c.in-Some.is in
-    let z : Channeled = record r { channel = c.after_chosen.new.channel } in
-    let told : says_lines q.say ≡ say = ap (λ (x : Channeled). says_lines x.say) c.choose.ensures.only ∙ ap (λ (x : Channeled). says_lines x.say) c.events.invariant.only in
-    let rated : r.rates ≡ rates = ap (λ (x : Channeled). x.rates) c.do_event.ensures.only ∙ ap (λ (x : Channeled). x.rates) c.choose.ensures.only ∙ ap (λ (x : Channeled). x.rates) c.events.invariant.only in
-    let done = subst (λ (s : Bool). IsLineDone s (line_outcome_at q.point e) r.point (g.O.Sink.held c.events.out) (g.O.Sink.held c.do_event.new.out)) told c.in-Ok.ensures.comes in
-    let then = c.in_ok-after_chosen.ensures.decided q.point r.point e c.in-Ok.ensures.answer ∙ ap (λ (x : Rates). after_chosen x (world_of q.point) (outcome_at q.point e) r.channel) rated in
-    let s = stepped say rates p q r z e (g.O.Sink.held c.events.out) (g.O.Sink.held c.do_event.new.out) c.choose.ensures.only c.do_event.ensures.only refl done c.in-Ok.ensures.answer.answer.run_state then in
-    let lines = stepped_lines q.point r.point e c.in-Ok.ensures.answer.answer.run_state in
-    let steps = stepped_steps q.point r.point e c.in-Ok.ensures.answer.answer.run_state in
-    let lines_kept = ap (λ (x : Channeled). x.point.lines) c.choose.ensures.only in
-    let steps_kept = ap (λ (x : Channeled). x.point.steps) c.choose.ensures.only in
-    let left_kept = ap (λ (x : Channeled). length x.channel.left) c.do_event.ensures.only in
-    let tick_kept = ap (λ (x : Channeled). x.channel.tick) c.do_event.ensures.only in
-    let tick = c.choose.ensures.tick c.events.invariant.tick c.requires.last in
-    record {
-      ran = λ now n t others. c.events.invariant.ran now n t
-          (chosen_ran say c.args.most c.events.did rates c.args.until.now p.point z.point n p.channel q.channel z.channel e o (g.O.Sink.held c.events.out) (g.O.Sink.held c.do_event.new.out) now t
-          c.events-test.true is c.choose.ensures.value s.done s.next s.then others);
-      channel = chosen_channel say c.args.most c.events.did rates c.args.until.now p.point z.point p.channel q.channel z.channel e o (g.O.Sink.held c.events.out) (g.O.Sink.held c.do_event.new.out)
-          c.events-test.true is c.choose.ensures.value s.done s.next s.then ∙ c.events.invariant.channel;
-      only = moved_on c.args.at.now p z c.events.invariant.only s.only;
-      started = stepped_started q.point r.point e c.in-Ok.ensures.answer.answer.run_state;
-      lines = lines ∙ lines_kept ∙ c.events.invariant.lines;
-      faults = c.in-Ok.ensures.cause.none (λ x. cc) ∙ c.events.invariant.faults;
-      within = omega (arith, c.events-test.true);
-      steps = omega (arith, steps, steps_kept, c.events.invariant.steps);
-      tick = omega (arith, tick, tick_kept, c.in_ok-after_chosen.ensures.tick);
-      left = left_few rates p.point e p.channel q.channel z.channel (subst (λ (x : Option Event). IsLeftBehind p.channel x q.channel) is c.choose.ensures.left) c.events.invariant.left s.then (omega (arith, left_kept, c.in_ok-after_chosen.ensures.few));
-      copies = c.in-Ok.ensures.copies;
-    }
+    chosen_goes_on c.args.until.now c.args.most c.events.did c.args.at.now c.events.at c.choose.new.at c.do_event.new.at c.after_chosen.new.channel (event_of c.in-Some.event) (option_map event_of c.choose.result) _ (g.O.Sink.held c.events.out) (g.O.Sink.held c.do_event.new.out) _ _ _ c.events.invariant
+    c.events-test.true c.choose.ensures.only c.choose.ensures.value c.choose.ensures.left (c.choose.ensures.tick c.events.invariant.tick c.requires.last) (ap (option_map event_of) c.in-Some.is)
+    c.do_event.ensures.only c.in-Ok.ensures.comes c.in-Ok.ensures.answer.answer.run_state (c.in-Ok.ensures.cause.none (λ x. cc)) c.in-Ok.ensures.copies
+    (c.in_ok-after_chosen.ensures.decided c.choose.new.at.point c.do_event.new.at.point (event_of c.in-Some.event) c.in-Ok.ensures.answer) c.in_ok-after_chosen.ensures.tick c.in_ok-after_chosen.ensures.few
 
 pub events-preserved-in_ok-after_chosen : goal.events-preserved-in_ok-after_chosen
 events-preserved-in_ok-after_chosen g c =
-    let p = c.events.at in
-    let q = c.choose.new.at in
-    let r = c.do_event.new.at in
-    let say = says_lines c.args.at.now.say in
-    let rates = c.args.at.now.rates in
-    let e = event_of c.in-Some.event in
-    let o = option_map event_of c.choose.result in
-    let is = ap (option_map event_of) c.in-Some.is in
-    let z : Channeled = record r { channel = c.after_chosen.new.channel } in
-    let told : says_lines q.say ≡ say = ap (λ (x : Channeled). says_lines x.say) c.choose.ensures.only ∙ ap (λ (x : Channeled). says_lines x.say) c.events.invariant.only in
-    let rated : r.rates ≡ rates = ap (λ (x : Channeled). x.rates) c.do_event.ensures.only ∙ ap (λ (x : Channeled). x.rates) c.choose.ensures.only ∙ ap (λ (x : Channeled). x.rates) c.events.invariant.only in
-    let done = subst (λ (s : Bool). IsLineDone s (line_outcome_at q.point e) r.point (g.O.Sink.held c.events.out) (g.O.Sink.held c.do_event.new.out)) told c.in-Ok.ensures.comes in
-    let then = c.in_ok-after_chosen.ensures.decided q.point r.point e c.in-Ok.ensures.answer ∙ ap (λ (x : Rates). after_chosen x (world_of q.point) (outcome_at q.point e) r.channel) rated in
-    let s = stepped say rates p q r z e (g.O.Sink.held c.events.out) (g.O.Sink.held c.do_event.new.out) c.choose.ensures.only c.do_event.ensures.only refl done c.in-Ok.ensures.answer.answer.run_state then in
-    let lines = stepped_lines q.point r.point e c.in-Ok.ensures.answer.answer.run_state in
-    let steps = stepped_steps q.point r.point e c.in-Ok.ensures.answer.answer.run_state in
-    let lines_kept = ap (λ (x : Channeled). x.point.lines) c.choose.ensures.only in
-    let steps_kept = ap (λ (x : Channeled). x.point.steps) c.choose.ensures.only in
-    let left_kept = ap (λ (x : Channeled). length x.channel.left) c.do_event.ensures.only in
-    let tick_kept = ap (λ (x : Channeled). x.channel.tick) c.do_event.ensures.only in
-    let tick = c.choose.ensures.tick c.events.invariant.tick c.requires.last in
-    record {
-      ran = λ now n t others. c.events.invariant.ran now n t
-          (chosen_ran say c.args.most c.events.did rates c.args.until.now p.point z.point n p.channel q.channel z.channel e o (g.O.Sink.held c.events.out) (g.O.Sink.held c.do_event.new.out) now t
-          c.events-test.true is c.choose.ensures.value s.done s.next s.then others);
-      channel = chosen_channel say c.args.most c.events.did rates c.args.until.now p.point z.point p.channel q.channel z.channel e o (g.O.Sink.held c.events.out) (g.O.Sink.held c.do_event.new.out)
-          c.events-test.true is c.choose.ensures.value s.done s.next s.then ∙ c.events.invariant.channel;
-      only = moved_on c.args.at.now p z c.events.invariant.only s.only;
-      started = stepped_started q.point r.point e c.in-Ok.ensures.answer.answer.run_state;
-      lines = lines ∙ lines_kept ∙ c.events.invariant.lines;
-      faults = c.in-Ok.ensures.cause.none (λ x. cc) ∙ c.events.invariant.faults;
-      within = omega (arith, c.events-test.true);
-      steps = omega (arith, steps, steps_kept, c.events.invariant.steps);
-      tick = omega (arith, tick, tick_kept, c.in_ok-after_chosen.ensures.tick);
-      left = left_few rates p.point e p.channel q.channel z.channel (subst (λ (x : Option Event). IsLeftBehind p.channel x q.channel) is c.choose.ensures.left) c.events.invariant.left s.then (omega (arith, left_kept, c.in_ok-after_chosen.ensures.few));
-      copies = c.in-Ok.ensures.copies;
-    }
+    chosen_goes_on c.args.until.now c.args.most c.events.did c.args.at.now c.events.at c.choose.new.at c.do_event.new.at c.after_chosen.new.channel (event_of c.in-Some.event) (option_map event_of c.choose.result) _ (g.O.Sink.held c.events.out) (g.O.Sink.held c.do_event.new.out) _ _ _ c.events.invariant
+    c.events-test.true c.choose.ensures.only c.choose.ensures.value c.choose.ensures.left (c.choose.ensures.tick c.events.invariant.tick c.requires.last) (ap (option_map event_of) c.in-Some.is)
+    c.do_event.ensures.only c.in-Ok.ensures.comes c.in-Ok.ensures.answer.answer.run_state (c.in-Ok.ensures.cause.none (λ x. cc)) c.in-Ok.ensures.copies
+    (c.in_ok-after_chosen.ensures.decided c.choose.new.at.point c.do_event.new.at.point (event_of c.in-Some.event) c.in-Ok.ensures.answer) c.in_ok-after_chosen.ensures.tick c.in_ok-after_chosen.ensures.few
 
 pub events-preserved-in_ok-after_chosen-2 : goal.events-preserved-in_ok-after_chosen-2
 events-preserved-in_ok-after_chosen-2 g c =
-    let p = c.events.at in
-    let q = c.choose.new.at in
-    let r = c.do_event.new.at in
-    let say = says_lines c.args.at.now.say in
-    let rates = c.args.at.now.rates in
-    let e = event_of c.in-Some.event in
-    let o = option_map event_of c.choose.result in
-    let is = ap (option_map event_of) c.in-Some.is in
-    let z : Channeled = record r { channel = c.after_chosen.new.channel } in
-    let told : says_lines q.say ≡ say = ap (λ (x : Channeled). says_lines x.say) c.choose.ensures.only ∙ ap (λ (x : Channeled). says_lines x.say) c.events.invariant.only in
-    let rated : r.rates ≡ rates = ap (λ (x : Channeled). x.rates) c.do_event.ensures.only ∙ ap (λ (x : Channeled). x.rates) c.choose.ensures.only ∙ ap (λ (x : Channeled). x.rates) c.events.invariant.only in
-    let done = subst (λ (s : Bool). IsLineDone s (line_outcome_at q.point e) r.point (g.O.Sink.held c.events.out) (g.O.Sink.held c.do_event.new.out)) told c.in-Ok.ensures.comes in
-    let then = c.in_ok-after_chosen.ensures.decided q.point r.point e c.in-Ok.ensures.answer ∙ ap (λ (x : Rates). after_chosen x (world_of q.point) (outcome_at q.point e) r.channel) rated in
-    let s = stepped say rates p q r z e (g.O.Sink.held c.events.out) (g.O.Sink.held c.do_event.new.out) c.choose.ensures.only c.do_event.ensures.only refl done c.in-Ok.ensures.answer.answer.run_state then in
-    let lines = stepped_lines q.point r.point e c.in-Ok.ensures.answer.answer.run_state in
-    let steps = stepped_steps q.point r.point e c.in-Ok.ensures.answer.answer.run_state in
-    let lines_kept = ap (λ (x : Channeled). x.point.lines) c.choose.ensures.only in
-    let steps_kept = ap (λ (x : Channeled). x.point.steps) c.choose.ensures.only in
-    let left_kept = ap (λ (x : Channeled). length x.channel.left) c.do_event.ensures.only in
-    let tick_kept = ap (λ (x : Channeled). x.channel.tick) c.do_event.ensures.only in
-    let tick = c.choose.ensures.tick c.events.invariant.tick c.requires.last in
-    record {
-      ran = λ now n t others. c.events.invariant.ran now n t
-          (chosen_ran say c.args.most c.events.did rates c.args.until.now p.point z.point n p.channel q.channel z.channel e o (g.O.Sink.held c.events.out) (g.O.Sink.held c.do_event.new.out) now t
-          c.events-test.true is c.choose.ensures.value s.done s.next s.then others);
-      channel = chosen_channel say c.args.most c.events.did rates c.args.until.now p.point z.point p.channel q.channel z.channel e o (g.O.Sink.held c.events.out) (g.O.Sink.held c.do_event.new.out)
-          c.events-test.true is c.choose.ensures.value s.done s.next s.then ∙ c.events.invariant.channel;
-      only = moved_on c.args.at.now p z c.events.invariant.only s.only;
-      started = stepped_started q.point r.point e c.in-Ok.ensures.answer.answer.run_state;
-      lines = lines ∙ lines_kept ∙ c.events.invariant.lines;
-      faults = c.in-Ok.ensures.cause.none (λ x. cc) ∙ c.events.invariant.faults;
-      within = omega (arith, c.events-test.true);
-      steps = omega (arith, steps, steps_kept, c.events.invariant.steps);
-      tick = omega (arith, tick, tick_kept, c.in_ok-after_chosen.ensures.tick);
-      left = left_few rates p.point e p.channel q.channel z.channel (subst (λ (x : Option Event). IsLeftBehind p.channel x q.channel) is c.choose.ensures.left) c.events.invariant.left s.then (omega (arith, left_kept, c.in_ok-after_chosen.ensures.few));
-      copies = c.in-Ok.ensures.copies;
-    }
+    chosen_goes_on c.args.until.now c.args.most c.events.did c.args.at.now c.events.at c.choose.new.at c.do_event.new.at c.after_chosen.new.channel (event_of c.in-Some.event) (option_map event_of c.choose.result) _ (g.O.Sink.held c.events.out) (g.O.Sink.held c.do_event.new.out) _ _ _ c.events.invariant
+    c.events-test.true c.choose.ensures.only c.choose.ensures.value c.choose.ensures.left (c.choose.ensures.tick c.events.invariant.tick c.requires.last) (ap (option_map event_of) c.in-Some.is)
+    c.do_event.ensures.only c.in-Ok.ensures.comes c.in-Ok.ensures.answer.answer.run_state (c.in-Ok.ensures.cause.none (λ x. cc)) c.in-Ok.ensures.copies
+    (c.in_ok-after_chosen.ensures.decided c.choose.new.at.point c.do_event.new.at.point (event_of c.in-Some.event) c.in-Ok.ensures.answer) c.in_ok-after_chosen.ensures.tick c.in_ok-after_chosen.ensures.few
 
 pub events-preserved-in_ok-after_chosen-3 : goal.events-preserved-in_ok-after_chosen-3
 events-preserved-in_ok-after_chosen-3 g c =
-    let p = c.events.at in
-    let q = c.choose.new.at in
-    let r = c.do_event.new.at in
-    let say = says_lines c.args.at.now.say in
-    let rates = c.args.at.now.rates in
-    let e = event_of c.in-Some.event in
-    let o = option_map event_of c.choose.result in
-    let is = ap (option_map event_of) c.in-Some.is in
-    let z : Channeled = record r { channel = c.after_chosen.new.channel } in
-    let told : says_lines q.say ≡ say = ap (λ (x : Channeled). says_lines x.say) c.choose.ensures.only ∙ ap (λ (x : Channeled). says_lines x.say) c.events.invariant.only in
-    let rated : r.rates ≡ rates = ap (λ (x : Channeled). x.rates) c.do_event.ensures.only ∙ ap (λ (x : Channeled). x.rates) c.choose.ensures.only ∙ ap (λ (x : Channeled). x.rates) c.events.invariant.only in
-    let done = subst (λ (s : Bool). IsLineDone s (line_outcome_at q.point e) r.point (g.O.Sink.held c.events.out) (g.O.Sink.held c.do_event.new.out)) told c.in-Ok.ensures.comes in
-    let then = c.in_ok-after_chosen.ensures.decided q.point r.point e c.in-Ok.ensures.answer ∙ ap (λ (x : Rates). after_chosen x (world_of q.point) (outcome_at q.point e) r.channel) rated in
-    let s = stepped say rates p q r z e (g.O.Sink.held c.events.out) (g.O.Sink.held c.do_event.new.out) c.choose.ensures.only c.do_event.ensures.only refl done c.in-Ok.ensures.answer.answer.run_state then in
-    let lines = stepped_lines q.point r.point e c.in-Ok.ensures.answer.answer.run_state in
-    let steps = stepped_steps q.point r.point e c.in-Ok.ensures.answer.answer.run_state in
-    let lines_kept = ap (λ (x : Channeled). x.point.lines) c.choose.ensures.only in
-    let steps_kept = ap (λ (x : Channeled). x.point.steps) c.choose.ensures.only in
-    let left_kept = ap (λ (x : Channeled). length x.channel.left) c.do_event.ensures.only in
-    let tick_kept = ap (λ (x : Channeled). x.channel.tick) c.do_event.ensures.only in
-    let tick = c.choose.ensures.tick c.events.invariant.tick c.requires.last in
-    record {
-      ran = λ now n t others. c.events.invariant.ran now n t
-          (chosen_ran say c.args.most c.events.did rates c.args.until.now p.point z.point n p.channel q.channel z.channel e o (g.O.Sink.held c.events.out) (g.O.Sink.held c.do_event.new.out) now t
-          c.events-test.true is c.choose.ensures.value s.done s.next s.then others);
-      channel = chosen_channel say c.args.most c.events.did rates c.args.until.now p.point z.point p.channel q.channel z.channel e o (g.O.Sink.held c.events.out) (g.O.Sink.held c.do_event.new.out)
-          c.events-test.true is c.choose.ensures.value s.done s.next s.then ∙ c.events.invariant.channel;
-      only = moved_on c.args.at.now p z c.events.invariant.only s.only;
-      started = stepped_started q.point r.point e c.in-Ok.ensures.answer.answer.run_state;
-      lines = lines ∙ lines_kept ∙ c.events.invariant.lines;
-      faults = c.in-Ok.ensures.cause.none (λ x. cc) ∙ c.events.invariant.faults;
-      within = omega (arith, c.events-test.true);
-      steps = omega (arith, steps, steps_kept, c.events.invariant.steps);
-      tick = omega (arith, tick, tick_kept, c.in_ok-after_chosen.ensures.tick);
-      left = left_few rates p.point e p.channel q.channel z.channel (subst (λ (x : Option Event). IsLeftBehind p.channel x q.channel) is c.choose.ensures.left) c.events.invariant.left s.then (omega (arith, left_kept, c.in_ok-after_chosen.ensures.few));
-      copies = c.in-Ok.ensures.copies;
-    }
+    chosen_goes_on c.args.until.now c.args.most c.events.did c.args.at.now c.events.at c.choose.new.at c.do_event.new.at c.after_chosen.new.channel (event_of c.in-Some.event) (option_map event_of c.choose.result) _ (g.O.Sink.held c.events.out) (g.O.Sink.held c.do_event.new.out) _ _ _ c.events.invariant
+    c.events-test.true c.choose.ensures.only c.choose.ensures.value c.choose.ensures.left (c.choose.ensures.tick c.events.invariant.tick c.requires.last) (ap (option_map event_of) c.in-Some.is)
+    c.do_event.ensures.only c.in-Ok.ensures.comes c.in-Ok.ensures.answer.answer.run_state (c.in-Ok.ensures.cause.none (λ x. cc)) c.in-Ok.ensures.copies
+    (c.in_ok-after_chosen.ensures.decided c.choose.new.at.point c.do_event.new.at.point (event_of c.in-Some.event) c.in-Ok.ensures.answer) c.in_ok-after_chosen.ensures.tick c.in_ok-after_chosen.ensures.few
 
 pub events-preserved-in_ok-after_chosen-4 : goal.events-preserved-in_ok-after_chosen-4
 events-preserved-in_ok-after_chosen-4 g c =
-    let p = c.events.at in
-    let q = c.choose.new.at in
-    let r = c.do_event.new.at in
-    let say = says_lines c.args.at.now.say in
-    let rates = c.args.at.now.rates in
-    let e = event_of c.in-Some.event in
-    let o = option_map event_of c.choose.result in
-    let is = ap (option_map event_of) c.in-Some.is in
-    let z : Channeled = record r { channel = c.after_chosen.new.channel } in
-    let told : says_lines q.say ≡ say = ap (λ (x : Channeled). says_lines x.say) c.choose.ensures.only ∙ ap (λ (x : Channeled). says_lines x.say) c.events.invariant.only in
-    let rated : r.rates ≡ rates = ap (λ (x : Channeled). x.rates) c.do_event.ensures.only ∙ ap (λ (x : Channeled). x.rates) c.choose.ensures.only ∙ ap (λ (x : Channeled). x.rates) c.events.invariant.only in
-    let done = subst (λ (s : Bool). IsLineDone s (line_outcome_at q.point e) r.point (g.O.Sink.held c.events.out) (g.O.Sink.held c.do_event.new.out)) told c.in-Ok.ensures.comes in
-    let then = c.in_ok-after_chosen.ensures.decided q.point r.point e c.in-Ok.ensures.answer ∙ ap (λ (x : Rates). after_chosen x (world_of q.point) (outcome_at q.point e) r.channel) rated in
-    let s = stepped say rates p q r z e (g.O.Sink.held c.events.out) (g.O.Sink.held c.do_event.new.out) c.choose.ensures.only c.do_event.ensures.only refl done c.in-Ok.ensures.answer.answer.run_state then in
-    let lines = stepped_lines q.point r.point e c.in-Ok.ensures.answer.answer.run_state in
-    let steps = stepped_steps q.point r.point e c.in-Ok.ensures.answer.answer.run_state in
-    let lines_kept = ap (λ (x : Channeled). x.point.lines) c.choose.ensures.only in
-    let steps_kept = ap (λ (x : Channeled). x.point.steps) c.choose.ensures.only in
-    let left_kept = ap (λ (x : Channeled). length x.channel.left) c.do_event.ensures.only in
-    let tick_kept = ap (λ (x : Channeled). x.channel.tick) c.do_event.ensures.only in
-    let tick = c.choose.ensures.tick c.events.invariant.tick c.requires.last in
-    record {
-      ran = λ now n t others. c.events.invariant.ran now n t
-          (chosen_ran say c.args.most c.events.did rates c.args.until.now p.point z.point n p.channel q.channel z.channel e o (g.O.Sink.held c.events.out) (g.O.Sink.held c.do_event.new.out) now t
-          c.events-test.true is c.choose.ensures.value s.done s.next s.then others);
-      channel = chosen_channel say c.args.most c.events.did rates c.args.until.now p.point z.point p.channel q.channel z.channel e o (g.O.Sink.held c.events.out) (g.O.Sink.held c.do_event.new.out)
-          c.events-test.true is c.choose.ensures.value s.done s.next s.then ∙ c.events.invariant.channel;
-      only = moved_on c.args.at.now p z c.events.invariant.only s.only;
-      started = stepped_started q.point r.point e c.in-Ok.ensures.answer.answer.run_state;
-      lines = lines ∙ lines_kept ∙ c.events.invariant.lines;
-      faults = c.in-Ok.ensures.cause.none (λ x. cc) ∙ c.events.invariant.faults;
-      within = omega (arith, c.events-test.true);
-      steps = omega (arith, steps, steps_kept, c.events.invariant.steps);
-      tick = omega (arith, tick, tick_kept, c.in_ok-after_chosen.ensures.tick);
-      left = left_few rates p.point e p.channel q.channel z.channel (subst (λ (x : Option Event). IsLeftBehind p.channel x q.channel) is c.choose.ensures.left) c.events.invariant.left s.then (omega (arith, left_kept, c.in_ok-after_chosen.ensures.few));
-      copies = c.in-Ok.ensures.copies;
-    }
+    chosen_goes_on c.args.until.now c.args.most c.events.did c.args.at.now c.events.at c.choose.new.at c.do_event.new.at c.after_chosen.new.channel (event_of c.in-Some.event) (option_map event_of c.choose.result) _ (g.O.Sink.held c.events.out) (g.O.Sink.held c.do_event.new.out) _ _ _ c.events.invariant
+    c.events-test.true c.choose.ensures.only c.choose.ensures.value c.choose.ensures.left (c.choose.ensures.tick c.events.invariant.tick c.requires.last) (ap (option_map event_of) c.in-Some.is)
+    c.do_event.ensures.only c.in-Ok.ensures.comes c.in-Ok.ensures.answer.answer.run_state (c.in-Ok.ensures.cause.none (λ x. cc)) c.in-Ok.ensures.copies
+    (c.in_ok-after_chosen.ensures.decided c.choose.new.at.point c.do_event.new.at.point (event_of c.in-Some.event) c.in-Ok.ensures.answer) c.in_ok-after_chosen.ensures.tick c.in_ok-after_chosen.ensures.few
 
 pub events-preserved-in_ok-after_chosen-5 : goal.events-preserved-in_ok-after_chosen-5
 events-preserved-in_ok-after_chosen-5 g c =
-    let p = c.events.at in
-    let q = c.choose.new.at in
-    let r = c.do_event.new.at in
-    let say = says_lines c.args.at.now.say in
-    let rates = c.args.at.now.rates in
-    let e = event_of c.in-Some.event in
-    let o = option_map event_of c.choose.result in
-    let is = ap (option_map event_of) c.in-Some.is in
-    let z : Channeled = record r { channel = c.after_chosen.new.channel } in
-    let told : says_lines q.say ≡ say = ap (λ (x : Channeled). says_lines x.say) c.choose.ensures.only ∙ ap (λ (x : Channeled). says_lines x.say) c.events.invariant.only in
-    let rated : r.rates ≡ rates = ap (λ (x : Channeled). x.rates) c.do_event.ensures.only ∙ ap (λ (x : Channeled). x.rates) c.choose.ensures.only ∙ ap (λ (x : Channeled). x.rates) c.events.invariant.only in
-    let done = subst (λ (s : Bool). IsLineDone s (line_outcome_at q.point e) r.point (g.O.Sink.held c.events.out) (g.O.Sink.held c.do_event.new.out)) told c.in-Ok.ensures.comes in
-    let then = c.in_ok-after_chosen.ensures.decided q.point r.point e c.in-Ok.ensures.answer ∙ ap (λ (x : Rates). after_chosen x (world_of q.point) (outcome_at q.point e) r.channel) rated in
-    let s = stepped say rates p q r z e (g.O.Sink.held c.events.out) (g.O.Sink.held c.do_event.new.out) c.choose.ensures.only c.do_event.ensures.only refl done c.in-Ok.ensures.answer.answer.run_state then in
-    let lines = stepped_lines q.point r.point e c.in-Ok.ensures.answer.answer.run_state in
-    let steps = stepped_steps q.point r.point e c.in-Ok.ensures.answer.answer.run_state in
-    let lines_kept = ap (λ (x : Channeled). x.point.lines) c.choose.ensures.only in
-    let steps_kept = ap (λ (x : Channeled). x.point.steps) c.choose.ensures.only in
-    let left_kept = ap (λ (x : Channeled). length x.channel.left) c.do_event.ensures.only in
-    let tick_kept = ap (λ (x : Channeled). x.channel.tick) c.do_event.ensures.only in
-    let tick = c.choose.ensures.tick c.events.invariant.tick c.requires.last in
-    record {
-      ran = λ now n t others. c.events.invariant.ran now n t
-          (chosen_ran say c.args.most c.events.did rates c.args.until.now p.point z.point n p.channel q.channel z.channel e o (g.O.Sink.held c.events.out) (g.O.Sink.held c.do_event.new.out) now t
-          c.events-test.true is c.choose.ensures.value s.done s.next s.then others);
-      channel = chosen_channel say c.args.most c.events.did rates c.args.until.now p.point z.point p.channel q.channel z.channel e o (g.O.Sink.held c.events.out) (g.O.Sink.held c.do_event.new.out)
-          c.events-test.true is c.choose.ensures.value s.done s.next s.then ∙ c.events.invariant.channel;
-      only = moved_on c.args.at.now p z c.events.invariant.only s.only;
-      started = stepped_started q.point r.point e c.in-Ok.ensures.answer.answer.run_state;
-      lines = lines ∙ lines_kept ∙ c.events.invariant.lines;
-      faults = c.in-Ok.ensures.cause.none (λ x. cc) ∙ c.events.invariant.faults;
-      within = omega (arith, c.events-test.true);
-      steps = omega (arith, steps, steps_kept, c.events.invariant.steps);
-      tick = omega (arith, tick, tick_kept, c.in_ok-after_chosen.ensures.tick);
-      left = left_few rates p.point e p.channel q.channel z.channel (subst (λ (x : Option Event). IsLeftBehind p.channel x q.channel) is c.choose.ensures.left) c.events.invariant.left s.then (omega (arith, left_kept, c.in_ok-after_chosen.ensures.few));
-      copies = c.in-Ok.ensures.copies;
-    }
+    chosen_goes_on c.args.until.now c.args.most c.events.did c.args.at.now c.events.at c.choose.new.at c.do_event.new.at c.after_chosen.new.channel (event_of c.in-Some.event) (option_map event_of c.choose.result) _ (g.O.Sink.held c.events.out) (g.O.Sink.held c.do_event.new.out) _ _ _ c.events.invariant
+    c.events-test.true c.choose.ensures.only c.choose.ensures.value c.choose.ensures.left (c.choose.ensures.tick c.events.invariant.tick c.requires.last) (ap (option_map event_of) c.in-Some.is)
+    c.do_event.ensures.only c.in-Ok.ensures.comes c.in-Ok.ensures.answer.answer.run_state (c.in-Ok.ensures.cause.none (λ x. cc)) c.in-Ok.ensures.copies
+    (c.in_ok-after_chosen.ensures.decided c.choose.new.at.point c.do_event.new.at.point (event_of c.in-Some.event) c.in-Ok.ensures.answer) c.in_ok-after_chosen.ensures.tick c.in_ok-after_chosen.ensures.few
 
 pub events-preserved-in_ok-after_chosen-6 : goal.events-preserved-in_ok-after_chosen-6
 events-preserved-in_ok-after_chosen-6 g c =
-    let p = c.events.at in
-    let q = c.choose.new.at in
-    let r = c.do_event.new.at in
-    let say = says_lines c.args.at.now.say in
-    let rates = c.args.at.now.rates in
-    let e = event_of c.in-Some.event in
-    let o = option_map event_of c.choose.result in
-    let is = ap (option_map event_of) c.in-Some.is in
-    let z : Channeled = record r { channel = c.after_chosen.new.channel } in
-    let told : says_lines q.say ≡ say = ap (λ (x : Channeled). says_lines x.say) c.choose.ensures.only ∙ ap (λ (x : Channeled). says_lines x.say) c.events.invariant.only in
-    let rated : r.rates ≡ rates = ap (λ (x : Channeled). x.rates) c.do_event.ensures.only ∙ ap (λ (x : Channeled). x.rates) c.choose.ensures.only ∙ ap (λ (x : Channeled). x.rates) c.events.invariant.only in
-    let done = subst (λ (s : Bool). IsLineDone s (line_outcome_at q.point e) r.point (g.O.Sink.held c.events.out) (g.O.Sink.held c.do_event.new.out)) told c.in-Ok.ensures.comes in
-    let then = c.in_ok-after_chosen.ensures.decided q.point r.point e c.in-Ok.ensures.answer ∙ ap (λ (x : Rates). after_chosen x (world_of q.point) (outcome_at q.point e) r.channel) rated in
-    let s = stepped say rates p q r z e (g.O.Sink.held c.events.out) (g.O.Sink.held c.do_event.new.out) c.choose.ensures.only c.do_event.ensures.only refl done c.in-Ok.ensures.answer.answer.run_state then in
-    let lines = stepped_lines q.point r.point e c.in-Ok.ensures.answer.answer.run_state in
-    let steps = stepped_steps q.point r.point e c.in-Ok.ensures.answer.answer.run_state in
-    let lines_kept = ap (λ (x : Channeled). x.point.lines) c.choose.ensures.only in
-    let steps_kept = ap (λ (x : Channeled). x.point.steps) c.choose.ensures.only in
-    let left_kept = ap (λ (x : Channeled). length x.channel.left) c.do_event.ensures.only in
-    let tick_kept = ap (λ (x : Channeled). x.channel.tick) c.do_event.ensures.only in
-    let tick = c.choose.ensures.tick c.events.invariant.tick c.requires.last in
-    record {
-      ran = λ now n t others. c.events.invariant.ran now n t
-          (chosen_ran say c.args.most c.events.did rates c.args.until.now p.point z.point n p.channel q.channel z.channel e o (g.O.Sink.held c.events.out) (g.O.Sink.held c.do_event.new.out) now t
-          c.events-test.true is c.choose.ensures.value s.done s.next s.then others);
-      channel = chosen_channel say c.args.most c.events.did rates c.args.until.now p.point z.point p.channel q.channel z.channel e o (g.O.Sink.held c.events.out) (g.O.Sink.held c.do_event.new.out)
-          c.events-test.true is c.choose.ensures.value s.done s.next s.then ∙ c.events.invariant.channel;
-      only = moved_on c.args.at.now p z c.events.invariant.only s.only;
-      started = stepped_started q.point r.point e c.in-Ok.ensures.answer.answer.run_state;
-      lines = lines ∙ lines_kept ∙ c.events.invariant.lines;
-      faults = c.in-Ok.ensures.cause.none (λ x. cc) ∙ c.events.invariant.faults;
-      within = omega (arith, c.events-test.true);
-      steps = omega (arith, steps, steps_kept, c.events.invariant.steps);
-      tick = omega (arith, tick, tick_kept, c.in_ok-after_chosen.ensures.tick);
-      left = left_few rates p.point e p.channel q.channel z.channel (subst (λ (x : Option Event). IsLeftBehind p.channel x q.channel) is c.choose.ensures.left) c.events.invariant.left s.then (omega (arith, left_kept, c.in_ok-after_chosen.ensures.few));
-      copies = c.in-Ok.ensures.copies;
-    }
+    chosen_goes_on c.args.until.now c.args.most c.events.did c.args.at.now c.events.at c.choose.new.at c.do_event.new.at c.after_chosen.new.channel (event_of c.in-Some.event) (option_map event_of c.choose.result) _ (g.O.Sink.held c.events.out) (g.O.Sink.held c.do_event.new.out) _ _ _ c.events.invariant
+    c.events-test.true c.choose.ensures.only c.choose.ensures.value c.choose.ensures.left (c.choose.ensures.tick c.events.invariant.tick c.requires.last) (ap (option_map event_of) c.in-Some.is)
+    c.do_event.ensures.only c.in-Ok.ensures.comes c.in-Ok.ensures.answer.answer.run_state (c.in-Ok.ensures.cause.none (λ x. cc)) c.in-Ok.ensures.copies
+    (c.in_ok-after_chosen.ensures.decided c.choose.new.at.point c.do_event.new.at.point (event_of c.in-Some.event) c.in-Ok.ensures.answer) c.in_ok-after_chosen.ensures.tick c.in_ok-after_chosen.ensures.few
 
 pub events-preserved-in_ok-after_chosen-7 : goal.events-preserved-in_ok-after_chosen-7
 events-preserved-in_ok-after_chosen-7 g c =
-    let p = c.events.at in
-    let q = c.choose.new.at in
-    let r = c.do_event.new.at in
-    let say = says_lines c.args.at.now.say in
-    let rates = c.args.at.now.rates in
-    let e = event_of c.in-Some.event in
-    let o = option_map event_of c.choose.result in
-    let is = ap (option_map event_of) c.in-Some.is in
-    let z : Channeled = record r { channel = c.after_chosen.new.channel } in
-    let told : says_lines q.say ≡ say = ap (λ (x : Channeled). says_lines x.say) c.choose.ensures.only ∙ ap (λ (x : Channeled). says_lines x.say) c.events.invariant.only in
-    let rated : r.rates ≡ rates = ap (λ (x : Channeled). x.rates) c.do_event.ensures.only ∙ ap (λ (x : Channeled). x.rates) c.choose.ensures.only ∙ ap (λ (x : Channeled). x.rates) c.events.invariant.only in
-    let done = subst (λ (s : Bool). IsLineDone s (line_outcome_at q.point e) r.point (g.O.Sink.held c.events.out) (g.O.Sink.held c.do_event.new.out)) told c.in-Ok.ensures.comes in
-    let then = c.in_ok-after_chosen.ensures.decided q.point r.point e c.in-Ok.ensures.answer ∙ ap (λ (x : Rates). after_chosen x (world_of q.point) (outcome_at q.point e) r.channel) rated in
-    let s = stepped say rates p q r z e (g.O.Sink.held c.events.out) (g.O.Sink.held c.do_event.new.out) c.choose.ensures.only c.do_event.ensures.only refl done c.in-Ok.ensures.answer.answer.run_state then in
-    let lines = stepped_lines q.point r.point e c.in-Ok.ensures.answer.answer.run_state in
-    let steps = stepped_steps q.point r.point e c.in-Ok.ensures.answer.answer.run_state in
-    let lines_kept = ap (λ (x : Channeled). x.point.lines) c.choose.ensures.only in
-    let steps_kept = ap (λ (x : Channeled). x.point.steps) c.choose.ensures.only in
-    let left_kept = ap (λ (x : Channeled). length x.channel.left) c.do_event.ensures.only in
-    let tick_kept = ap (λ (x : Channeled). x.channel.tick) c.do_event.ensures.only in
-    let tick = c.choose.ensures.tick c.events.invariant.tick c.requires.last in
-    record {
-      ran = λ now n t others. c.events.invariant.ran now n t
-          (chosen_ran say c.args.most c.events.did rates c.args.until.now p.point z.point n p.channel q.channel z.channel e o (g.O.Sink.held c.events.out) (g.O.Sink.held c.do_event.new.out) now t
-          c.events-test.true is c.choose.ensures.value s.done s.next s.then others);
-      channel = chosen_channel say c.args.most c.events.did rates c.args.until.now p.point z.point p.channel q.channel z.channel e o (g.O.Sink.held c.events.out) (g.O.Sink.held c.do_event.new.out)
-          c.events-test.true is c.choose.ensures.value s.done s.next s.then ∙ c.events.invariant.channel;
-      only = moved_on c.args.at.now p z c.events.invariant.only s.only;
-      started = stepped_started q.point r.point e c.in-Ok.ensures.answer.answer.run_state;
-      lines = lines ∙ lines_kept ∙ c.events.invariant.lines;
-      faults = c.in-Ok.ensures.cause.none (λ x. cc) ∙ c.events.invariant.faults;
-      within = omega (arith, c.events-test.true);
-      steps = omega (arith, steps, steps_kept, c.events.invariant.steps);
-      tick = omega (arith, tick, tick_kept, c.in_ok-after_chosen.ensures.tick);
-      left = left_few rates p.point e p.channel q.channel z.channel (subst (λ (x : Option Event). IsLeftBehind p.channel x q.channel) is c.choose.ensures.left) c.events.invariant.left s.then (omega (arith, left_kept, c.in_ok-after_chosen.ensures.few));
-      copies = c.in-Ok.ensures.copies;
-    }
+    chosen_goes_on c.args.until.now c.args.most c.events.did c.args.at.now c.events.at c.choose.new.at c.do_event.new.at c.after_chosen.new.channel (event_of c.in-Some.event) (option_map event_of c.choose.result) _ (g.O.Sink.held c.events.out) (g.O.Sink.held c.do_event.new.out) _ _ _ c.events.invariant
+    c.events-test.true c.choose.ensures.only c.choose.ensures.value c.choose.ensures.left (c.choose.ensures.tick c.events.invariant.tick c.requires.last) (ap (option_map event_of) c.in-Some.is)
+    c.do_event.ensures.only c.in-Ok.ensures.comes c.in-Ok.ensures.answer.answer.run_state (c.in-Ok.ensures.cause.none (λ x. cc)) c.in-Ok.ensures.copies
+    (c.in_ok-after_chosen.ensures.decided c.choose.new.at.point c.do_event.new.at.point (event_of c.in-Some.event) c.in-Ok.ensures.answer) c.in_ok-after_chosen.ensures.tick c.in_ok-after_chosen.ensures.few
 
 pub events-preserved-in_ok-after_chosen-8 : goal.events-preserved-in_ok-after_chosen-8
 events-preserved-in_ok-after_chosen-8 g c =
-    let p = c.events.at in
-    let q = c.choose.new.at in
-    let r = c.do_event.new.at in
-    let say = says_lines c.args.at.now.say in
-    let rates = c.args.at.now.rates in
-    let e = event_of c.in-Some.event in
-    let o = option_map event_of c.choose.result in
-    let is = ap (option_map event_of) c.in-Some.is in
-    let z : Channeled = record r { channel = c.after_chosen.new.channel } in
-    let told : says_lines q.say ≡ say = ap (λ (x : Channeled). says_lines x.say) c.choose.ensures.only ∙ ap (λ (x : Channeled). says_lines x.say) c.events.invariant.only in
-    let rated : r.rates ≡ rates = ap (λ (x : Channeled). x.rates) c.do_event.ensures.only ∙ ap (λ (x : Channeled). x.rates) c.choose.ensures.only ∙ ap (λ (x : Channeled). x.rates) c.events.invariant.only in
-    let done = subst (λ (s : Bool). IsLineDone s (line_outcome_at q.point e) r.point (g.O.Sink.held c.events.out) (g.O.Sink.held c.do_event.new.out)) told c.in-Ok.ensures.comes in
-    let then = c.in_ok-after_chosen.ensures.decided q.point r.point e c.in-Ok.ensures.answer ∙ ap (λ (x : Rates). after_chosen x (world_of q.point) (outcome_at q.point e) r.channel) rated in
-    let s = stepped say rates p q r z e (g.O.Sink.held c.events.out) (g.O.Sink.held c.do_event.new.out) c.choose.ensures.only c.do_event.ensures.only refl done c.in-Ok.ensures.answer.answer.run_state then in
-    let lines = stepped_lines q.point r.point e c.in-Ok.ensures.answer.answer.run_state in
-    let steps = stepped_steps q.point r.point e c.in-Ok.ensures.answer.answer.run_state in
-    let lines_kept = ap (λ (x : Channeled). x.point.lines) c.choose.ensures.only in
-    let steps_kept = ap (λ (x : Channeled). x.point.steps) c.choose.ensures.only in
-    let left_kept = ap (λ (x : Channeled). length x.channel.left) c.do_event.ensures.only in
-    let tick_kept = ap (λ (x : Channeled). x.channel.tick) c.do_event.ensures.only in
-    let tick = c.choose.ensures.tick c.events.invariant.tick c.requires.last in
-    record {
-      ran = λ now n t others. c.events.invariant.ran now n t
-          (chosen_ran say c.args.most c.events.did rates c.args.until.now p.point z.point n p.channel q.channel z.channel e o (g.O.Sink.held c.events.out) (g.O.Sink.held c.do_event.new.out) now t
-          c.events-test.true is c.choose.ensures.value s.done s.next s.then others);
-      channel = chosen_channel say c.args.most c.events.did rates c.args.until.now p.point z.point p.channel q.channel z.channel e o (g.O.Sink.held c.events.out) (g.O.Sink.held c.do_event.new.out)
-          c.events-test.true is c.choose.ensures.value s.done s.next s.then ∙ c.events.invariant.channel;
-      only = moved_on c.args.at.now p z c.events.invariant.only s.only;
-      started = stepped_started q.point r.point e c.in-Ok.ensures.answer.answer.run_state;
-      lines = lines ∙ lines_kept ∙ c.events.invariant.lines;
-      faults = c.in-Ok.ensures.cause.none (λ x. cc) ∙ c.events.invariant.faults;
-      within = omega (arith, c.events-test.true);
-      steps = omega (arith, steps, steps_kept, c.events.invariant.steps);
-      tick = omega (arith, tick, tick_kept, c.in_ok-after_chosen.ensures.tick);
-      left = left_few rates p.point e p.channel q.channel z.channel (subst (λ (x : Option Event). IsLeftBehind p.channel x q.channel) is c.choose.ensures.left) c.events.invariant.left s.then (omega (arith, left_kept, c.in_ok-after_chosen.ensures.few));
-      copies = c.in-Ok.ensures.copies;
-    }
+    chosen_goes_on c.args.until.now c.args.most c.events.did c.args.at.now c.events.at c.choose.new.at c.do_event.new.at c.after_chosen.new.channel (event_of c.in-Some.event) (option_map event_of c.choose.result) _ (g.O.Sink.held c.events.out) (g.O.Sink.held c.do_event.new.out) _ _ _ c.events.invariant
+    c.events-test.true c.choose.ensures.only c.choose.ensures.value c.choose.ensures.left (c.choose.ensures.tick c.events.invariant.tick c.requires.last) (ap (option_map event_of) c.in-Some.is)
+    c.do_event.ensures.only c.in-Ok.ensures.comes c.in-Ok.ensures.answer.answer.run_state (c.in-Ok.ensures.cause.none (λ x. cc)) c.in-Ok.ensures.copies
+    (c.in_ok-after_chosen.ensures.decided c.choose.new.at.point c.do_event.new.at.point (event_of c.in-Some.event) c.in-Ok.ensures.answer) c.in_ok-after_chosen.ensures.tick c.in_ok-after_chosen.ensures.few
 
 pub events-preserved-in_ok-after_chosen-9 : goal.events-preserved-in_ok-after_chosen-9
 events-preserved-in_ok-after_chosen-9 g c =
-    let p = c.events.at in
-    let q = c.choose.new.at in
-    let r = c.do_event.new.at in
-    let say = says_lines c.args.at.now.say in
-    let rates = c.args.at.now.rates in
-    let e = event_of c.in-Some.event in
-    let o = option_map event_of c.choose.result in
-    let is = ap (option_map event_of) c.in-Some.is in
-    let z : Channeled = record r { channel = c.after_chosen.new.channel } in
-    let told : says_lines q.say ≡ say = ap (λ (x : Channeled). says_lines x.say) c.choose.ensures.only ∙ ap (λ (x : Channeled). says_lines x.say) c.events.invariant.only in
-    let rated : r.rates ≡ rates = ap (λ (x : Channeled). x.rates) c.do_event.ensures.only ∙ ap (λ (x : Channeled). x.rates) c.choose.ensures.only ∙ ap (λ (x : Channeled). x.rates) c.events.invariant.only in
-    let done = subst (λ (s : Bool). IsLineDone s (line_outcome_at q.point e) r.point (g.O.Sink.held c.events.out) (g.O.Sink.held c.do_event.new.out)) told c.in-Ok.ensures.comes in
-    let then = c.in_ok-after_chosen.ensures.decided q.point r.point e c.in-Ok.ensures.answer ∙ ap (λ (x : Rates). after_chosen x (world_of q.point) (outcome_at q.point e) r.channel) rated in
-    let s = stepped say rates p q r z e (g.O.Sink.held c.events.out) (g.O.Sink.held c.do_event.new.out) c.choose.ensures.only c.do_event.ensures.only refl done c.in-Ok.ensures.answer.answer.run_state then in
-    let lines = stepped_lines q.point r.point e c.in-Ok.ensures.answer.answer.run_state in
-    let steps = stepped_steps q.point r.point e c.in-Ok.ensures.answer.answer.run_state in
-    let lines_kept = ap (λ (x : Channeled). x.point.lines) c.choose.ensures.only in
-    let steps_kept = ap (λ (x : Channeled). x.point.steps) c.choose.ensures.only in
-    let left_kept = ap (λ (x : Channeled). length x.channel.left) c.do_event.ensures.only in
-    let tick_kept = ap (λ (x : Channeled). x.channel.tick) c.do_event.ensures.only in
-    let tick = c.choose.ensures.tick c.events.invariant.tick c.requires.last in
-    record {
-      ran = λ now n t others. c.events.invariant.ran now n t
-          (chosen_ran say c.args.most c.events.did rates c.args.until.now p.point z.point n p.channel q.channel z.channel e o (g.O.Sink.held c.events.out) (g.O.Sink.held c.do_event.new.out) now t
-          c.events-test.true is c.choose.ensures.value s.done s.next s.then others);
-      channel = chosen_channel say c.args.most c.events.did rates c.args.until.now p.point z.point p.channel q.channel z.channel e o (g.O.Sink.held c.events.out) (g.O.Sink.held c.do_event.new.out)
-          c.events-test.true is c.choose.ensures.value s.done s.next s.then ∙ c.events.invariant.channel;
-      only = moved_on c.args.at.now p z c.events.invariant.only s.only;
-      started = stepped_started q.point r.point e c.in-Ok.ensures.answer.answer.run_state;
-      lines = lines ∙ lines_kept ∙ c.events.invariant.lines;
-      faults = c.in-Ok.ensures.cause.none (λ x. cc) ∙ c.events.invariant.faults;
-      within = omega (arith, c.events-test.true);
-      steps = omega (arith, steps, steps_kept, c.events.invariant.steps);
-      tick = omega (arith, tick, tick_kept, c.in_ok-after_chosen.ensures.tick);
-      left = left_few rates p.point e p.channel q.channel z.channel (subst (λ (x : Option Event). IsLeftBehind p.channel x q.channel) is c.choose.ensures.left) c.events.invariant.left s.then (omega (arith, left_kept, c.in_ok-after_chosen.ensures.few));
-      copies = c.in-Ok.ensures.copies;
-    }
+    chosen_goes_on c.args.until.now c.args.most c.events.did c.args.at.now c.events.at c.choose.new.at c.do_event.new.at c.after_chosen.new.channel (event_of c.in-Some.event) (option_map event_of c.choose.result) _ (g.O.Sink.held c.events.out) (g.O.Sink.held c.do_event.new.out) _ _ _ c.events.invariant
+    c.events-test.true c.choose.ensures.only c.choose.ensures.value c.choose.ensures.left (c.choose.ensures.tick c.events.invariant.tick c.requires.last) (ap (option_map event_of) c.in-Some.is)
+    c.do_event.ensures.only c.in-Ok.ensures.comes c.in-Ok.ensures.answer.answer.run_state (c.in-Ok.ensures.cause.none (λ x. cc)) c.in-Ok.ensures.copies
+    (c.in_ok-after_chosen.ensures.decided c.choose.new.at.point c.do_event.new.at.point (event_of c.in-Some.event) c.in-Ok.ensures.answer) c.in_ok-after_chosen.ensures.tick c.in_ok-after_chosen.ensures.few
 
 pub events-preserved-in_ok-after_chosen-10 : goal.events-preserved-in_ok-after_chosen-10
 events-preserved-in_ok-after_chosen-10 g c =
-    let p = c.events.at in
-    let q = c.choose.new.at in
-    let r = c.do_event.new.at in
-    let say = says_lines c.args.at.now.say in
-    let rates = c.args.at.now.rates in
-    let e = event_of c.in-Some.event in
-    let o = option_map event_of c.choose.result in
-    let is = ap (option_map event_of) c.in-Some.is in
-    let z : Channeled = record r { channel = c.after_chosen.new.channel } in
-    let told : says_lines q.say ≡ say = ap (λ (x : Channeled). says_lines x.say) c.choose.ensures.only ∙ ap (λ (x : Channeled). says_lines x.say) c.events.invariant.only in
-    let rated : r.rates ≡ rates = ap (λ (x : Channeled). x.rates) c.do_event.ensures.only ∙ ap (λ (x : Channeled). x.rates) c.choose.ensures.only ∙ ap (λ (x : Channeled). x.rates) c.events.invariant.only in
-    let done = subst (λ (s : Bool). IsLineDone s (line_outcome_at q.point e) r.point (g.O.Sink.held c.events.out) (g.O.Sink.held c.do_event.new.out)) told c.in-Ok.ensures.comes in
-    let then = c.in_ok-after_chosen.ensures.decided q.point r.point e c.in-Ok.ensures.answer ∙ ap (λ (x : Rates). after_chosen x (world_of q.point) (outcome_at q.point e) r.channel) rated in
-    let s = stepped say rates p q r z e (g.O.Sink.held c.events.out) (g.O.Sink.held c.do_event.new.out) c.choose.ensures.only c.do_event.ensures.only refl done c.in-Ok.ensures.answer.answer.run_state then in
-    let lines = stepped_lines q.point r.point e c.in-Ok.ensures.answer.answer.run_state in
-    let steps = stepped_steps q.point r.point e c.in-Ok.ensures.answer.answer.run_state in
-    let lines_kept = ap (λ (x : Channeled). x.point.lines) c.choose.ensures.only in
-    let steps_kept = ap (λ (x : Channeled). x.point.steps) c.choose.ensures.only in
-    let left_kept = ap (λ (x : Channeled). length x.channel.left) c.do_event.ensures.only in
-    let tick_kept = ap (λ (x : Channeled). x.channel.tick) c.do_event.ensures.only in
-    let tick = c.choose.ensures.tick c.events.invariant.tick c.requires.last in
-    record {
-      ran = λ now n t others. c.events.invariant.ran now n t
-          (chosen_ran say c.args.most c.events.did rates c.args.until.now p.point z.point n p.channel q.channel z.channel e o (g.O.Sink.held c.events.out) (g.O.Sink.held c.do_event.new.out) now t
-          c.events-test.true is c.choose.ensures.value s.done s.next s.then others);
-      channel = chosen_channel say c.args.most c.events.did rates c.args.until.now p.point z.point p.channel q.channel z.channel e o (g.O.Sink.held c.events.out) (g.O.Sink.held c.do_event.new.out)
-          c.events-test.true is c.choose.ensures.value s.done s.next s.then ∙ c.events.invariant.channel;
-      only = moved_on c.args.at.now p z c.events.invariant.only s.only;
-      started = stepped_started q.point r.point e c.in-Ok.ensures.answer.answer.run_state;
-      lines = lines ∙ lines_kept ∙ c.events.invariant.lines;
-      faults = c.in-Ok.ensures.cause.none (λ x. cc) ∙ c.events.invariant.faults;
-      within = omega (arith, c.events-test.true);
-      steps = omega (arith, steps, steps_kept, c.events.invariant.steps);
-      tick = omega (arith, tick, tick_kept, c.in_ok-after_chosen.ensures.tick);
-      left = left_few rates p.point e p.channel q.channel z.channel (subst (λ (x : Option Event). IsLeftBehind p.channel x q.channel) is c.choose.ensures.left) c.events.invariant.left s.then (omega (arith, left_kept, c.in_ok-after_chosen.ensures.few));
-      copies = c.in-Ok.ensures.copies;
-    }
+    chosen_goes_on c.args.until.now c.args.most c.events.did c.args.at.now c.events.at c.choose.new.at c.do_event.new.at c.after_chosen.new.channel (event_of c.in-Some.event) (option_map event_of c.choose.result) _ (g.O.Sink.held c.events.out) (g.O.Sink.held c.do_event.new.out) _ _ _ c.events.invariant
+    c.events-test.true c.choose.ensures.only c.choose.ensures.value c.choose.ensures.left (c.choose.ensures.tick c.events.invariant.tick c.requires.last) (ap (option_map event_of) c.in-Some.is)
+    c.do_event.ensures.only c.in-Ok.ensures.comes c.in-Ok.ensures.answer.answer.run_state (c.in-Ok.ensures.cause.none (λ x. cc)) c.in-Ok.ensures.copies
+    (c.in_ok-after_chosen.ensures.decided c.choose.new.at.point c.do_event.new.at.point (event_of c.in-Some.event) c.in-Ok.ensures.answer) c.in_ok-after_chosen.ensures.tick c.in_ok-after_chosen.ensures.few
 
 pub returns-clause-ran : goal.returns-clause-ran
 returns-clause-ran g c =

@@ -1,390 +1,81 @@
 use Rattle.std.proofs.Common.{◌≡◌, ◌∙◌, ◌+◌, Bool, List, ℕ, Option, Some, None, Ok, Err, length, refl, sym, ap, subst, arith}
-use Rattle.std.specs.Prelude.{option_map, drop}
+use Rattle.std.specs.Prelude.{option_map}
 use Rattle.mesh_meaning.specs.Events.{event_of}
 use Rattle.mesh_text.specs.Schedule.{RunState}
 use Rattle.mesh_text.specs.Auto.{outcome_of_events}
 use Rattle.mesh_run.specs.Outputs.{says_lines}
-use Rattle.mesh_run.specs.Runs.{IsEventsDone, IsEventsRun, IsLineDone, IsLineStopped, line_outcome_at}
-use Rattle.mesh_run.proofs.Events.{stepped_started, stepped_mesh, stepped_lines, stepped_steps}
+use Rattle.mesh_run.specs.Runs.{IsEventsDone, IsEventsRun, IsLineStopped, line_outcome_at}
 use Rattle.mesh_fates.specs.Channels.{Channel}
 use Rattle.mesh_channel.specs.RunStates.{run_state_of}
 use Rattle.mesh_channel.specs.declared.channeled.Channeled.{Channeled}
-use Rattle.mesh_channel.proofs.Doing.{list_ends, moved_on, moved_channel, moved_point, no_left, left_goes, left_stops, left_one, left_kept, left_over}
+use Rattle.mesh_channel.proofs.Doing.{list_ends, moved_on, moved_channel, moved_point, no_left, left_stops, left_one, left_over, left_goes_on}
 use Rattle.mesh_channel.proofs.given.do_left.Goals as goal
 
 pub left-preserved-in_default-do_event : goal.left-preserved-in_default-do_event
 left-preserved-in_default-do_event g c =
-    let p = c.left.at in
-    let q = c.next_left.new.at in
-    let r = c.do_event.new.at in
-    let say = says_lines c.args.at.now.say in
-    let e = event_of c.in-Some.event in
-    let o = option_map event_of c.next_left.result in
-    let is = ap (option_map event_of) c.in-Some.is in
-    let told : says_lines q.say ≡ say = ap (λ (x : Channeled). says_lines x.say) c.next_left.ensures.only ∙ ap (λ (x : Channeled). says_lines x.say) c.left.invariant.only in
-    let here = subst (λ (s : Bool). IsLineDone s (line_outcome_at q.point e) r.point (g.O.Sink.held c.left.out) (g.O.Sink.held c.do_event.new.out)) told c.in_default-do_event.ensures.comes in
-    let at_q : q.point ≡ p.point = ap (λ (x : Channeled). x.point) c.next_left.ensures.only in
-    let done = subst (λ (m : RunState). IsLineDone say (line_outcome_at m e) r.point (g.O.Sink.held c.left.out) (g.O.Sink.held c.do_event.new.out)) at_q here in
-    let run_state = c.in_default-do_event.ensures.answer.answer.run_state in
-    let kept : r.channel ≡ record p.channel { left = drop 1 p.channel.left } = ap (λ (x : Channeled). x.channel) c.do_event.ensures.only ∙ c.next_left.ensures.left in
-    let steps = stepped_steps q.point r.point e run_state in
-    let steps_kept = ap (λ (x : Channeled). x.point.steps) c.next_left.ensures.only in
-    let one = left_one p.channel.left e o is c.next_left.ensures.next in
-    let less = ap (λ (x : Channel). length x.left) kept in
-    let size = ap (λ (m : RunState). length m.mesh) at_q in
-    let size_kept = ap length (stepped_mesh q.point r.point e run_state) in
-    record {
-      ran = λ now n t others. c.left.invariant.ran now n t
-          (left_goes say p.point r.point n e p.channel.left r.channel.left o (g.O.Sink.held c.left.out) (g.O.Sink.held c.do_event.new.out) now t is c.next_left.ensures.next (ap (λ (x : Channel). x.left) kept) done others);
-      channel = left_kept c.args.at.now.channel p.channel r.channel c.left.invariant.channel kept;
-      only = moved_on c.args.at.now p r c.left.invariant.only (moved_on p q r (moved_channel p q c.next_left.ensures.only) (moved_point q r c.do_event.ensures.only));
-      some = omega (arith, size, size_kept, c.left.invariant.some);
-      started = stepped_started q.point r.point e run_state;
-      lines = stepped_lines q.point r.point e run_state ∙ ap (λ (m : RunState). m.lines) at_q ∙ c.left.invariant.lines;
-      faults = c.in_default-do_event.ensures.cause.none (λ x. cc) ∙ c.left.invariant.faults;
-      steps = omega (arith, steps, steps_kept, one, less, c.left.invariant.steps);
-      copies = c.in_default-do_event.ensures.copies;
-    }
+    left_goes_on c.args.at.now c.left.at c.next_left.new.at c.do_event.new.at (event_of c.in-Some.event) (option_map event_of c.next_left.result) _ (g.O.Sink.held c.left.out) (g.O.Sink.held c.do_event.new.out) _ _ _ c.left.invariant
+    c.next_left.ensures.only c.next_left.ensures.left c.next_left.ensures.next (ap (option_map event_of) c.in-Some.is) c.do_event.ensures.only c.in_default-do_event.ensures.comes
+    c.in_default-do_event.ensures.answer.answer.run_state (c.in_default-do_event.ensures.cause.none (λ x. cc)) c.in_default-do_event.ensures.copies
 
 pub left-preserved-in_default-do_event-2 : goal.left-preserved-in_default-do_event-2
 left-preserved-in_default-do_event-2 g c =
-    let p = c.left.at in
-    let q = c.next_left.new.at in
-    let r = c.do_event.new.at in
-    let say = says_lines c.args.at.now.say in
-    let e = event_of c.in-Some.event in
-    let o = option_map event_of c.next_left.result in
-    let is = ap (option_map event_of) c.in-Some.is in
-    let told : says_lines q.say ≡ say = ap (λ (x : Channeled). says_lines x.say) c.next_left.ensures.only ∙ ap (λ (x : Channeled). says_lines x.say) c.left.invariant.only in
-    let here = subst (λ (s : Bool). IsLineDone s (line_outcome_at q.point e) r.point (g.O.Sink.held c.left.out) (g.O.Sink.held c.do_event.new.out)) told c.in_default-do_event.ensures.comes in
-    let at_q : q.point ≡ p.point = ap (λ (x : Channeled). x.point) c.next_left.ensures.only in
-    let done = subst (λ (m : RunState). IsLineDone say (line_outcome_at m e) r.point (g.O.Sink.held c.left.out) (g.O.Sink.held c.do_event.new.out)) at_q here in
-    let run_state = c.in_default-do_event.ensures.answer.answer.run_state in
-    let kept : r.channel ≡ record p.channel { left = drop 1 p.channel.left } = ap (λ (x : Channeled). x.channel) c.do_event.ensures.only ∙ c.next_left.ensures.left in
-    let steps = stepped_steps q.point r.point e run_state in
-    let steps_kept = ap (λ (x : Channeled). x.point.steps) c.next_left.ensures.only in
-    let one = left_one p.channel.left e o is c.next_left.ensures.next in
-    let less = ap (λ (x : Channel). length x.left) kept in
-    let size = ap (λ (m : RunState). length m.mesh) at_q in
-    let size_kept = ap length (stepped_mesh q.point r.point e run_state) in
-    record {
-      ran = λ now n t others. c.left.invariant.ran now n t
-          (left_goes say p.point r.point n e p.channel.left r.channel.left o (g.O.Sink.held c.left.out) (g.O.Sink.held c.do_event.new.out) now t is c.next_left.ensures.next (ap (λ (x : Channel). x.left) kept) done others);
-      channel = left_kept c.args.at.now.channel p.channel r.channel c.left.invariant.channel kept;
-      only = moved_on c.args.at.now p r c.left.invariant.only (moved_on p q r (moved_channel p q c.next_left.ensures.only) (moved_point q r c.do_event.ensures.only));
-      some = omega (arith, size, size_kept, c.left.invariant.some);
-      started = stepped_started q.point r.point e run_state;
-      lines = stepped_lines q.point r.point e run_state ∙ ap (λ (m : RunState). m.lines) at_q ∙ c.left.invariant.lines;
-      faults = c.in_default-do_event.ensures.cause.none (λ x. cc) ∙ c.left.invariant.faults;
-      steps = omega (arith, steps, steps_kept, one, less, c.left.invariant.steps);
-      copies = c.in_default-do_event.ensures.copies;
-    }
+    left_goes_on c.args.at.now c.left.at c.next_left.new.at c.do_event.new.at (event_of c.in-Some.event) (option_map event_of c.next_left.result) _ (g.O.Sink.held c.left.out) (g.O.Sink.held c.do_event.new.out) _ _ _ c.left.invariant
+    c.next_left.ensures.only c.next_left.ensures.left c.next_left.ensures.next (ap (option_map event_of) c.in-Some.is) c.do_event.ensures.only c.in_default-do_event.ensures.comes
+    c.in_default-do_event.ensures.answer.answer.run_state (c.in_default-do_event.ensures.cause.none (λ x. cc)) c.in_default-do_event.ensures.copies
 
 pub left-preserved-in_default-do_event-3 : goal.left-preserved-in_default-do_event-3
 left-preserved-in_default-do_event-3 g c =
-    let p = c.left.at in
-    let q = c.next_left.new.at in
-    let r = c.do_event.new.at in
-    let say = says_lines c.args.at.now.say in
-    let e = event_of c.in-Some.event in
-    let o = option_map event_of c.next_left.result in
-    let is = ap (option_map event_of) c.in-Some.is in
-    let told : says_lines q.say ≡ say = ap (λ (x : Channeled). says_lines x.say) c.next_left.ensures.only ∙ ap (λ (x : Channeled). says_lines x.say) c.left.invariant.only in
-    let here = subst (λ (s : Bool). IsLineDone s (line_outcome_at q.point e) r.point (g.O.Sink.held c.left.out) (g.O.Sink.held c.do_event.new.out)) told c.in_default-do_event.ensures.comes in
-    let at_q : q.point ≡ p.point = ap (λ (x : Channeled). x.point) c.next_left.ensures.only in
-    let done = subst (λ (m : RunState). IsLineDone say (line_outcome_at m e) r.point (g.O.Sink.held c.left.out) (g.O.Sink.held c.do_event.new.out)) at_q here in
-    let run_state = c.in_default-do_event.ensures.answer.answer.run_state in
-    let kept : r.channel ≡ record p.channel { left = drop 1 p.channel.left } = ap (λ (x : Channeled). x.channel) c.do_event.ensures.only ∙ c.next_left.ensures.left in
-    let steps = stepped_steps q.point r.point e run_state in
-    let steps_kept = ap (λ (x : Channeled). x.point.steps) c.next_left.ensures.only in
-    let one = left_one p.channel.left e o is c.next_left.ensures.next in
-    let less = ap (λ (x : Channel). length x.left) kept in
-    let size = ap (λ (m : RunState). length m.mesh) at_q in
-    let size_kept = ap length (stepped_mesh q.point r.point e run_state) in
-    record {
-      ran = λ now n t others. c.left.invariant.ran now n t
-          (left_goes say p.point r.point n e p.channel.left r.channel.left o (g.O.Sink.held c.left.out) (g.O.Sink.held c.do_event.new.out) now t is c.next_left.ensures.next (ap (λ (x : Channel). x.left) kept) done others);
-      channel = left_kept c.args.at.now.channel p.channel r.channel c.left.invariant.channel kept;
-      only = moved_on c.args.at.now p r c.left.invariant.only (moved_on p q r (moved_channel p q c.next_left.ensures.only) (moved_point q r c.do_event.ensures.only));
-      some = omega (arith, size, size_kept, c.left.invariant.some);
-      started = stepped_started q.point r.point e run_state;
-      lines = stepped_lines q.point r.point e run_state ∙ ap (λ (m : RunState). m.lines) at_q ∙ c.left.invariant.lines;
-      faults = c.in_default-do_event.ensures.cause.none (λ x. cc) ∙ c.left.invariant.faults;
-      steps = omega (arith, steps, steps_kept, one, less, c.left.invariant.steps);
-      copies = c.in_default-do_event.ensures.copies;
-    }
+    left_goes_on c.args.at.now c.left.at c.next_left.new.at c.do_event.new.at (event_of c.in-Some.event) (option_map event_of c.next_left.result) _ (g.O.Sink.held c.left.out) (g.O.Sink.held c.do_event.new.out) _ _ _ c.left.invariant
+    c.next_left.ensures.only c.next_left.ensures.left c.next_left.ensures.next (ap (option_map event_of) c.in-Some.is) c.do_event.ensures.only c.in_default-do_event.ensures.comes
+    c.in_default-do_event.ensures.answer.answer.run_state (c.in_default-do_event.ensures.cause.none (λ x. cc)) c.in_default-do_event.ensures.copies
 
 pub left-preserved-in_default-do_event-4 : goal.left-preserved-in_default-do_event-4
 left-preserved-in_default-do_event-4 g c =
-    let p = c.left.at in
-    let q = c.next_left.new.at in
-    let r = c.do_event.new.at in
-    let say = says_lines c.args.at.now.say in
-    let e = event_of c.in-Some.event in
-    let o = option_map event_of c.next_left.result in
-    let is = ap (option_map event_of) c.in-Some.is in
-    let told : says_lines q.say ≡ say = ap (λ (x : Channeled). says_lines x.say) c.next_left.ensures.only ∙ ap (λ (x : Channeled). says_lines x.say) c.left.invariant.only in
-    let here = subst (λ (s : Bool). IsLineDone s (line_outcome_at q.point e) r.point (g.O.Sink.held c.left.out) (g.O.Sink.held c.do_event.new.out)) told c.in_default-do_event.ensures.comes in
-    let at_q : q.point ≡ p.point = ap (λ (x : Channeled). x.point) c.next_left.ensures.only in
-    let done = subst (λ (m : RunState). IsLineDone say (line_outcome_at m e) r.point (g.O.Sink.held c.left.out) (g.O.Sink.held c.do_event.new.out)) at_q here in
-    let run_state = c.in_default-do_event.ensures.answer.answer.run_state in
-    let kept : r.channel ≡ record p.channel { left = drop 1 p.channel.left } = ap (λ (x : Channeled). x.channel) c.do_event.ensures.only ∙ c.next_left.ensures.left in
-    let steps = stepped_steps q.point r.point e run_state in
-    let steps_kept = ap (λ (x : Channeled). x.point.steps) c.next_left.ensures.only in
-    let one = left_one p.channel.left e o is c.next_left.ensures.next in
-    let less = ap (λ (x : Channel). length x.left) kept in
-    let size = ap (λ (m : RunState). length m.mesh) at_q in
-    let size_kept = ap length (stepped_mesh q.point r.point e run_state) in
-    record {
-      ran = λ now n t others. c.left.invariant.ran now n t
-          (left_goes say p.point r.point n e p.channel.left r.channel.left o (g.O.Sink.held c.left.out) (g.O.Sink.held c.do_event.new.out) now t is c.next_left.ensures.next (ap (λ (x : Channel). x.left) kept) done others);
-      channel = left_kept c.args.at.now.channel p.channel r.channel c.left.invariant.channel kept;
-      only = moved_on c.args.at.now p r c.left.invariant.only (moved_on p q r (moved_channel p q c.next_left.ensures.only) (moved_point q r c.do_event.ensures.only));
-      some = omega (arith, size, size_kept, c.left.invariant.some);
-      started = stepped_started q.point r.point e run_state;
-      lines = stepped_lines q.point r.point e run_state ∙ ap (λ (m : RunState). m.lines) at_q ∙ c.left.invariant.lines;
-      faults = c.in_default-do_event.ensures.cause.none (λ x. cc) ∙ c.left.invariant.faults;
-      steps = omega (arith, steps, steps_kept, one, less, c.left.invariant.steps);
-      copies = c.in_default-do_event.ensures.copies;
-    }
+    left_goes_on c.args.at.now c.left.at c.next_left.new.at c.do_event.new.at (event_of c.in-Some.event) (option_map event_of c.next_left.result) _ (g.O.Sink.held c.left.out) (g.O.Sink.held c.do_event.new.out) _ _ _ c.left.invariant
+    c.next_left.ensures.only c.next_left.ensures.left c.next_left.ensures.next (ap (option_map event_of) c.in-Some.is) c.do_event.ensures.only c.in_default-do_event.ensures.comes
+    c.in_default-do_event.ensures.answer.answer.run_state (c.in_default-do_event.ensures.cause.none (λ x. cc)) c.in_default-do_event.ensures.copies
 
 pub left-preserved-in_default-do_event-5 : goal.left-preserved-in_default-do_event-5
 left-preserved-in_default-do_event-5 g c =
-    let p = c.left.at in
-    let q = c.next_left.new.at in
-    let r = c.do_event.new.at in
-    let say = says_lines c.args.at.now.say in
-    let e = event_of c.in-Some.event in
-    let o = option_map event_of c.next_left.result in
-    let is = ap (option_map event_of) c.in-Some.is in
-    let told : says_lines q.say ≡ say = ap (λ (x : Channeled). says_lines x.say) c.next_left.ensures.only ∙ ap (λ (x : Channeled). says_lines x.say) c.left.invariant.only in
-    let here = subst (λ (s : Bool). IsLineDone s (line_outcome_at q.point e) r.point (g.O.Sink.held c.left.out) (g.O.Sink.held c.do_event.new.out)) told c.in_default-do_event.ensures.comes in
-    let at_q : q.point ≡ p.point = ap (λ (x : Channeled). x.point) c.next_left.ensures.only in
-    let done = subst (λ (m : RunState). IsLineDone say (line_outcome_at m e) r.point (g.O.Sink.held c.left.out) (g.O.Sink.held c.do_event.new.out)) at_q here in
-    let run_state = c.in_default-do_event.ensures.answer.answer.run_state in
-    let kept : r.channel ≡ record p.channel { left = drop 1 p.channel.left } = ap (λ (x : Channeled). x.channel) c.do_event.ensures.only ∙ c.next_left.ensures.left in
-    let steps = stepped_steps q.point r.point e run_state in
-    let steps_kept = ap (λ (x : Channeled). x.point.steps) c.next_left.ensures.only in
-    let one = left_one p.channel.left e o is c.next_left.ensures.next in
-    let less = ap (λ (x : Channel). length x.left) kept in
-    let size = ap (λ (m : RunState). length m.mesh) at_q in
-    let size_kept = ap length (stepped_mesh q.point r.point e run_state) in
-    record {
-      ran = λ now n t others. c.left.invariant.ran now n t
-          (left_goes say p.point r.point n e p.channel.left r.channel.left o (g.O.Sink.held c.left.out) (g.O.Sink.held c.do_event.new.out) now t is c.next_left.ensures.next (ap (λ (x : Channel). x.left) kept) done others);
-      channel = left_kept c.args.at.now.channel p.channel r.channel c.left.invariant.channel kept;
-      only = moved_on c.args.at.now p r c.left.invariant.only (moved_on p q r (moved_channel p q c.next_left.ensures.only) (moved_point q r c.do_event.ensures.only));
-      some = omega (arith, size, size_kept, c.left.invariant.some);
-      started = stepped_started q.point r.point e run_state;
-      lines = stepped_lines q.point r.point e run_state ∙ ap (λ (m : RunState). m.lines) at_q ∙ c.left.invariant.lines;
-      faults = c.in_default-do_event.ensures.cause.none (λ x. cc) ∙ c.left.invariant.faults;
-      steps = omega (arith, steps, steps_kept, one, less, c.left.invariant.steps);
-      copies = c.in_default-do_event.ensures.copies;
-    }
+    left_goes_on c.args.at.now c.left.at c.next_left.new.at c.do_event.new.at (event_of c.in-Some.event) (option_map event_of c.next_left.result) _ (g.O.Sink.held c.left.out) (g.O.Sink.held c.do_event.new.out) _ _ _ c.left.invariant
+    c.next_left.ensures.only c.next_left.ensures.left c.next_left.ensures.next (ap (option_map event_of) c.in-Some.is) c.do_event.ensures.only c.in_default-do_event.ensures.comes
+    c.in_default-do_event.ensures.answer.answer.run_state (c.in_default-do_event.ensures.cause.none (λ x. cc)) c.in_default-do_event.ensures.copies
 
 pub left-preserved-in_default-do_event-6 : goal.left-preserved-in_default-do_event-6
 left-preserved-in_default-do_event-6 g c =
-    let p = c.left.at in
-    let q = c.next_left.new.at in
-    let r = c.do_event.new.at in
-    let say = says_lines c.args.at.now.say in
-    let e = event_of c.in-Some.event in
-    let o = option_map event_of c.next_left.result in
-    let is = ap (option_map event_of) c.in-Some.is in
-    let told : says_lines q.say ≡ say = ap (λ (x : Channeled). says_lines x.say) c.next_left.ensures.only ∙ ap (λ (x : Channeled). says_lines x.say) c.left.invariant.only in
-    let here = subst (λ (s : Bool). IsLineDone s (line_outcome_at q.point e) r.point (g.O.Sink.held c.left.out) (g.O.Sink.held c.do_event.new.out)) told c.in_default-do_event.ensures.comes in
-    let at_q : q.point ≡ p.point = ap (λ (x : Channeled). x.point) c.next_left.ensures.only in
-    let done = subst (λ (m : RunState). IsLineDone say (line_outcome_at m e) r.point (g.O.Sink.held c.left.out) (g.O.Sink.held c.do_event.new.out)) at_q here in
-    let run_state = c.in_default-do_event.ensures.answer.answer.run_state in
-    let kept : r.channel ≡ record p.channel { left = drop 1 p.channel.left } = ap (λ (x : Channeled). x.channel) c.do_event.ensures.only ∙ c.next_left.ensures.left in
-    let steps = stepped_steps q.point r.point e run_state in
-    let steps_kept = ap (λ (x : Channeled). x.point.steps) c.next_left.ensures.only in
-    let one = left_one p.channel.left e o is c.next_left.ensures.next in
-    let less = ap (λ (x : Channel). length x.left) kept in
-    let size = ap (λ (m : RunState). length m.mesh) at_q in
-    let size_kept = ap length (stepped_mesh q.point r.point e run_state) in
-    record {
-      ran = λ now n t others. c.left.invariant.ran now n t
-          (left_goes say p.point r.point n e p.channel.left r.channel.left o (g.O.Sink.held c.left.out) (g.O.Sink.held c.do_event.new.out) now t is c.next_left.ensures.next (ap (λ (x : Channel). x.left) kept) done others);
-      channel = left_kept c.args.at.now.channel p.channel r.channel c.left.invariant.channel kept;
-      only = moved_on c.args.at.now p r c.left.invariant.only (moved_on p q r (moved_channel p q c.next_left.ensures.only) (moved_point q r c.do_event.ensures.only));
-      some = omega (arith, size, size_kept, c.left.invariant.some);
-      started = stepped_started q.point r.point e run_state;
-      lines = stepped_lines q.point r.point e run_state ∙ ap (λ (m : RunState). m.lines) at_q ∙ c.left.invariant.lines;
-      faults = c.in_default-do_event.ensures.cause.none (λ x. cc) ∙ c.left.invariant.faults;
-      steps = omega (arith, steps, steps_kept, one, less, c.left.invariant.steps);
-      copies = c.in_default-do_event.ensures.copies;
-    }
+    left_goes_on c.args.at.now c.left.at c.next_left.new.at c.do_event.new.at (event_of c.in-Some.event) (option_map event_of c.next_left.result) _ (g.O.Sink.held c.left.out) (g.O.Sink.held c.do_event.new.out) _ _ _ c.left.invariant
+    c.next_left.ensures.only c.next_left.ensures.left c.next_left.ensures.next (ap (option_map event_of) c.in-Some.is) c.do_event.ensures.only c.in_default-do_event.ensures.comes
+    c.in_default-do_event.ensures.answer.answer.run_state (c.in_default-do_event.ensures.cause.none (λ x. cc)) c.in_default-do_event.ensures.copies
 
 pub left-preserved-in_default-do_event-7 : goal.left-preserved-in_default-do_event-7
 left-preserved-in_default-do_event-7 g c =
-    let p = c.left.at in
-    let q = c.next_left.new.at in
-    let r = c.do_event.new.at in
-    let say = says_lines c.args.at.now.say in
-    let e = event_of c.in-Some.event in
-    let o = option_map event_of c.next_left.result in
-    let is = ap (option_map event_of) c.in-Some.is in
-    let told : says_lines q.say ≡ say = ap (λ (x : Channeled). says_lines x.say) c.next_left.ensures.only ∙ ap (λ (x : Channeled). says_lines x.say) c.left.invariant.only in
-    let here = subst (λ (s : Bool). IsLineDone s (line_outcome_at q.point e) r.point (g.O.Sink.held c.left.out) (g.O.Sink.held c.do_event.new.out)) told c.in_default-do_event.ensures.comes in
-    let at_q : q.point ≡ p.point = ap (λ (x : Channeled). x.point) c.next_left.ensures.only in
-    let done = subst (λ (m : RunState). IsLineDone say (line_outcome_at m e) r.point (g.O.Sink.held c.left.out) (g.O.Sink.held c.do_event.new.out)) at_q here in
-    let run_state = c.in_default-do_event.ensures.answer.answer.run_state in
-    let kept : r.channel ≡ record p.channel { left = drop 1 p.channel.left } = ap (λ (x : Channeled). x.channel) c.do_event.ensures.only ∙ c.next_left.ensures.left in
-    let steps = stepped_steps q.point r.point e run_state in
-    let steps_kept = ap (λ (x : Channeled). x.point.steps) c.next_left.ensures.only in
-    let one = left_one p.channel.left e o is c.next_left.ensures.next in
-    let less = ap (λ (x : Channel). length x.left) kept in
-    let size = ap (λ (m : RunState). length m.mesh) at_q in
-    let size_kept = ap length (stepped_mesh q.point r.point e run_state) in
-    record {
-      ran = λ now n t others. c.left.invariant.ran now n t
-          (left_goes say p.point r.point n e p.channel.left r.channel.left o (g.O.Sink.held c.left.out) (g.O.Sink.held c.do_event.new.out) now t is c.next_left.ensures.next (ap (λ (x : Channel). x.left) kept) done others);
-      channel = left_kept c.args.at.now.channel p.channel r.channel c.left.invariant.channel kept;
-      only = moved_on c.args.at.now p r c.left.invariant.only (moved_on p q r (moved_channel p q c.next_left.ensures.only) (moved_point q r c.do_event.ensures.only));
-      some = omega (arith, size, size_kept, c.left.invariant.some);
-      started = stepped_started q.point r.point e run_state;
-      lines = stepped_lines q.point r.point e run_state ∙ ap (λ (m : RunState). m.lines) at_q ∙ c.left.invariant.lines;
-      faults = c.in_default-do_event.ensures.cause.none (λ x. cc) ∙ c.left.invariant.faults;
-      steps = omega (arith, steps, steps_kept, one, less, c.left.invariant.steps);
-      copies = c.in_default-do_event.ensures.copies;
-    }
+    left_goes_on c.args.at.now c.left.at c.next_left.new.at c.do_event.new.at (event_of c.in-Some.event) (option_map event_of c.next_left.result) _ (g.O.Sink.held c.left.out) (g.O.Sink.held c.do_event.new.out) _ _ _ c.left.invariant
+    c.next_left.ensures.only c.next_left.ensures.left c.next_left.ensures.next (ap (option_map event_of) c.in-Some.is) c.do_event.ensures.only c.in_default-do_event.ensures.comes
+    c.in_default-do_event.ensures.answer.answer.run_state (c.in_default-do_event.ensures.cause.none (λ x. cc)) c.in_default-do_event.ensures.copies
 
 pub left-preserved-in_default-do_event-8 : goal.left-preserved-in_default-do_event-8
 left-preserved-in_default-do_event-8 g c =
-    let p = c.left.at in
-    let q = c.next_left.new.at in
-    let r = c.do_event.new.at in
-    let say = says_lines c.args.at.now.say in
-    let e = event_of c.in-Some.event in
-    let o = option_map event_of c.next_left.result in
-    let is = ap (option_map event_of) c.in-Some.is in
-    let told : says_lines q.say ≡ say = ap (λ (x : Channeled). says_lines x.say) c.next_left.ensures.only ∙ ap (λ (x : Channeled). says_lines x.say) c.left.invariant.only in
-    let here = subst (λ (s : Bool). IsLineDone s (line_outcome_at q.point e) r.point (g.O.Sink.held c.left.out) (g.O.Sink.held c.do_event.new.out)) told c.in_default-do_event.ensures.comes in
-    let at_q : q.point ≡ p.point = ap (λ (x : Channeled). x.point) c.next_left.ensures.only in
-    let done = subst (λ (m : RunState). IsLineDone say (line_outcome_at m e) r.point (g.O.Sink.held c.left.out) (g.O.Sink.held c.do_event.new.out)) at_q here in
-    let run_state = c.in_default-do_event.ensures.answer.answer.run_state in
-    let kept : r.channel ≡ record p.channel { left = drop 1 p.channel.left } = ap (λ (x : Channeled). x.channel) c.do_event.ensures.only ∙ c.next_left.ensures.left in
-    let steps = stepped_steps q.point r.point e run_state in
-    let steps_kept = ap (λ (x : Channeled). x.point.steps) c.next_left.ensures.only in
-    let one = left_one p.channel.left e o is c.next_left.ensures.next in
-    let less = ap (λ (x : Channel). length x.left) kept in
-    let size = ap (λ (m : RunState). length m.mesh) at_q in
-    let size_kept = ap length (stepped_mesh q.point r.point e run_state) in
-    record {
-      ran = λ now n t others. c.left.invariant.ran now n t
-          (left_goes say p.point r.point n e p.channel.left r.channel.left o (g.O.Sink.held c.left.out) (g.O.Sink.held c.do_event.new.out) now t is c.next_left.ensures.next (ap (λ (x : Channel). x.left) kept) done others);
-      channel = left_kept c.args.at.now.channel p.channel r.channel c.left.invariant.channel kept;
-      only = moved_on c.args.at.now p r c.left.invariant.only (moved_on p q r (moved_channel p q c.next_left.ensures.only) (moved_point q r c.do_event.ensures.only));
-      some = omega (arith, size, size_kept, c.left.invariant.some);
-      started = stepped_started q.point r.point e run_state;
-      lines = stepped_lines q.point r.point e run_state ∙ ap (λ (m : RunState). m.lines) at_q ∙ c.left.invariant.lines;
-      faults = c.in_default-do_event.ensures.cause.none (λ x. cc) ∙ c.left.invariant.faults;
-      steps = omega (arith, steps, steps_kept, one, less, c.left.invariant.steps);
-      copies = c.in_default-do_event.ensures.copies;
-    }
+    left_goes_on c.args.at.now c.left.at c.next_left.new.at c.do_event.new.at (event_of c.in-Some.event) (option_map event_of c.next_left.result) _ (g.O.Sink.held c.left.out) (g.O.Sink.held c.do_event.new.out) _ _ _ c.left.invariant
+    c.next_left.ensures.only c.next_left.ensures.left c.next_left.ensures.next (ap (option_map event_of) c.in-Some.is) c.do_event.ensures.only c.in_default-do_event.ensures.comes
+    c.in_default-do_event.ensures.answer.answer.run_state (c.in_default-do_event.ensures.cause.none (λ x. cc)) c.in_default-do_event.ensures.copies
 
 pub left-preserved-in_default-do_event-9 : goal.left-preserved-in_default-do_event-9
 left-preserved-in_default-do_event-9 g c =
-    let p = c.left.at in
-    let q = c.next_left.new.at in
-    let r = c.do_event.new.at in
-    let say = says_lines c.args.at.now.say in
-    let e = event_of c.in-Some.event in
-    let o = option_map event_of c.next_left.result in
-    let is = ap (option_map event_of) c.in-Some.is in
-    let told : says_lines q.say ≡ say = ap (λ (x : Channeled). says_lines x.say) c.next_left.ensures.only ∙ ap (λ (x : Channeled). says_lines x.say) c.left.invariant.only in
-    let here = subst (λ (s : Bool). IsLineDone s (line_outcome_at q.point e) r.point (g.O.Sink.held c.left.out) (g.O.Sink.held c.do_event.new.out)) told c.in_default-do_event.ensures.comes in
-    let at_q : q.point ≡ p.point = ap (λ (x : Channeled). x.point) c.next_left.ensures.only in
-    let done = subst (λ (m : RunState). IsLineDone say (line_outcome_at m e) r.point (g.O.Sink.held c.left.out) (g.O.Sink.held c.do_event.new.out)) at_q here in
-    let run_state = c.in_default-do_event.ensures.answer.answer.run_state in
-    let kept : r.channel ≡ record p.channel { left = drop 1 p.channel.left } = ap (λ (x : Channeled). x.channel) c.do_event.ensures.only ∙ c.next_left.ensures.left in
-    let steps = stepped_steps q.point r.point e run_state in
-    let steps_kept = ap (λ (x : Channeled). x.point.steps) c.next_left.ensures.only in
-    let one = left_one p.channel.left e o is c.next_left.ensures.next in
-    let less = ap (λ (x : Channel). length x.left) kept in
-    let size = ap (λ (m : RunState). length m.mesh) at_q in
-    let size_kept = ap length (stepped_mesh q.point r.point e run_state) in
-    record {
-      ran = λ now n t others. c.left.invariant.ran now n t
-          (left_goes say p.point r.point n e p.channel.left r.channel.left o (g.O.Sink.held c.left.out) (g.O.Sink.held c.do_event.new.out) now t is c.next_left.ensures.next (ap (λ (x : Channel). x.left) kept) done others);
-      channel = left_kept c.args.at.now.channel p.channel r.channel c.left.invariant.channel kept;
-      only = moved_on c.args.at.now p r c.left.invariant.only (moved_on p q r (moved_channel p q c.next_left.ensures.only) (moved_point q r c.do_event.ensures.only));
-      some = omega (arith, size, size_kept, c.left.invariant.some);
-      started = stepped_started q.point r.point e run_state;
-      lines = stepped_lines q.point r.point e run_state ∙ ap (λ (m : RunState). m.lines) at_q ∙ c.left.invariant.lines;
-      faults = c.in_default-do_event.ensures.cause.none (λ x. cc) ∙ c.left.invariant.faults;
-      steps = omega (arith, steps, steps_kept, one, less, c.left.invariant.steps);
-      copies = c.in_default-do_event.ensures.copies;
-    }
+    left_goes_on c.args.at.now c.left.at c.next_left.new.at c.do_event.new.at (event_of c.in-Some.event) (option_map event_of c.next_left.result) _ (g.O.Sink.held c.left.out) (g.O.Sink.held c.do_event.new.out) _ _ _ c.left.invariant
+    c.next_left.ensures.only c.next_left.ensures.left c.next_left.ensures.next (ap (option_map event_of) c.in-Some.is) c.do_event.ensures.only c.in_default-do_event.ensures.comes
+    c.in_default-do_event.ensures.answer.answer.run_state (c.in_default-do_event.ensures.cause.none (λ x. cc)) c.in_default-do_event.ensures.copies
 
 pub left-preserved-in_default-do_event-10 : goal.left-preserved-in_default-do_event-10
 left-preserved-in_default-do_event-10 g c =
-    let p = c.left.at in
-    let q = c.next_left.new.at in
-    let r = c.do_event.new.at in
-    let say = says_lines c.args.at.now.say in
-    let e = event_of c.in-Some.event in
-    let o = option_map event_of c.next_left.result in
-    let is = ap (option_map event_of) c.in-Some.is in
-    let told : says_lines q.say ≡ say = ap (λ (x : Channeled). says_lines x.say) c.next_left.ensures.only ∙ ap (λ (x : Channeled). says_lines x.say) c.left.invariant.only in
-    let here = subst (λ (s : Bool). IsLineDone s (line_outcome_at q.point e) r.point (g.O.Sink.held c.left.out) (g.O.Sink.held c.do_event.new.out)) told c.in_default-do_event.ensures.comes in
-    let at_q : q.point ≡ p.point = ap (λ (x : Channeled). x.point) c.next_left.ensures.only in
-    let done = subst (λ (m : RunState). IsLineDone say (line_outcome_at m e) r.point (g.O.Sink.held c.left.out) (g.O.Sink.held c.do_event.new.out)) at_q here in
-    let run_state = c.in_default-do_event.ensures.answer.answer.run_state in
-    let kept : r.channel ≡ record p.channel { left = drop 1 p.channel.left } = ap (λ (x : Channeled). x.channel) c.do_event.ensures.only ∙ c.next_left.ensures.left in
-    let steps = stepped_steps q.point r.point e run_state in
-    let steps_kept = ap (λ (x : Channeled). x.point.steps) c.next_left.ensures.only in
-    let one = left_one p.channel.left e o is c.next_left.ensures.next in
-    let less = ap (λ (x : Channel). length x.left) kept in
-    let size = ap (λ (m : RunState). length m.mesh) at_q in
-    let size_kept = ap length (stepped_mesh q.point r.point e run_state) in
-    record {
-      ran = λ now n t others. c.left.invariant.ran now n t
-          (left_goes say p.point r.point n e p.channel.left r.channel.left o (g.O.Sink.held c.left.out) (g.O.Sink.held c.do_event.new.out) now t is c.next_left.ensures.next (ap (λ (x : Channel). x.left) kept) done others);
-      channel = left_kept c.args.at.now.channel p.channel r.channel c.left.invariant.channel kept;
-      only = moved_on c.args.at.now p r c.left.invariant.only (moved_on p q r (moved_channel p q c.next_left.ensures.only) (moved_point q r c.do_event.ensures.only));
-      some = omega (arith, size, size_kept, c.left.invariant.some);
-      started = stepped_started q.point r.point e run_state;
-      lines = stepped_lines q.point r.point e run_state ∙ ap (λ (m : RunState). m.lines) at_q ∙ c.left.invariant.lines;
-      faults = c.in_default-do_event.ensures.cause.none (λ x. cc) ∙ c.left.invariant.faults;
-      steps = omega (arith, steps, steps_kept, one, less, c.left.invariant.steps);
-      copies = c.in_default-do_event.ensures.copies;
-    }
+    left_goes_on c.args.at.now c.left.at c.next_left.new.at c.do_event.new.at (event_of c.in-Some.event) (option_map event_of c.next_left.result) _ (g.O.Sink.held c.left.out) (g.O.Sink.held c.do_event.new.out) _ _ _ c.left.invariant
+    c.next_left.ensures.only c.next_left.ensures.left c.next_left.ensures.next (ap (option_map event_of) c.in-Some.is) c.do_event.ensures.only c.in_default-do_event.ensures.comes
+    c.in_default-do_event.ensures.answer.answer.run_state (c.in_default-do_event.ensures.cause.none (λ x. cc)) c.in_default-do_event.ensures.copies
 
 pub left-preserved-in_default-do_event-11 : goal.left-preserved-in_default-do_event-11
 left-preserved-in_default-do_event-11 g c =
-    let p = c.left.at in
-    let q = c.next_left.new.at in
-    let r = c.do_event.new.at in
-    let say = says_lines c.args.at.now.say in
-    let e = event_of c.in-Some.event in
-    let o = option_map event_of c.next_left.result in
-    let is = ap (option_map event_of) c.in-Some.is in
-    let told : says_lines q.say ≡ say = ap (λ (x : Channeled). says_lines x.say) c.next_left.ensures.only ∙ ap (λ (x : Channeled). says_lines x.say) c.left.invariant.only in
-    let here = subst (λ (s : Bool). IsLineDone s (line_outcome_at q.point e) r.point (g.O.Sink.held c.left.out) (g.O.Sink.held c.do_event.new.out)) told c.in_default-do_event.ensures.comes in
-    let at_q : q.point ≡ p.point = ap (λ (x : Channeled). x.point) c.next_left.ensures.only in
-    let done = subst (λ (m : RunState). IsLineDone say (line_outcome_at m e) r.point (g.O.Sink.held c.left.out) (g.O.Sink.held c.do_event.new.out)) at_q here in
-    let run_state = c.in_default-do_event.ensures.answer.answer.run_state in
-    let kept : r.channel ≡ record p.channel { left = drop 1 p.channel.left } = ap (λ (x : Channeled). x.channel) c.do_event.ensures.only ∙ c.next_left.ensures.left in
-    let steps = stepped_steps q.point r.point e run_state in
-    let steps_kept = ap (λ (x : Channeled). x.point.steps) c.next_left.ensures.only in
-    let one = left_one p.channel.left e o is c.next_left.ensures.next in
-    let less = ap (λ (x : Channel). length x.left) kept in
-    let size = ap (λ (m : RunState). length m.mesh) at_q in
-    let size_kept = ap length (stepped_mesh q.point r.point e run_state) in
-    record {
-      ran = λ now n t others. c.left.invariant.ran now n t
-          (left_goes say p.point r.point n e p.channel.left r.channel.left o (g.O.Sink.held c.left.out) (g.O.Sink.held c.do_event.new.out) now t is c.next_left.ensures.next (ap (λ (x : Channel). x.left) kept) done others);
-      channel = left_kept c.args.at.now.channel p.channel r.channel c.left.invariant.channel kept;
-      only = moved_on c.args.at.now p r c.left.invariant.only (moved_on p q r (moved_channel p q c.next_left.ensures.only) (moved_point q r c.do_event.ensures.only));
-      some = omega (arith, size, size_kept, c.left.invariant.some);
-      started = stepped_started q.point r.point e run_state;
-      lines = stepped_lines q.point r.point e run_state ∙ ap (λ (m : RunState). m.lines) at_q ∙ c.left.invariant.lines;
-      faults = c.in_default-do_event.ensures.cause.none (λ x. cc) ∙ c.left.invariant.faults;
-      steps = omega (arith, steps, steps_kept, one, less, c.left.invariant.steps);
-      copies = c.in_default-do_event.ensures.copies;
-    }
+    left_goes_on c.args.at.now c.left.at c.next_left.new.at c.do_event.new.at (event_of c.in-Some.event) (option_map event_of c.next_left.result) _ (g.O.Sink.held c.left.out) (g.O.Sink.held c.do_event.new.out) _ _ _ c.left.invariant
+    c.next_left.ensures.only c.next_left.ensures.left c.next_left.ensures.next (ap (option_map event_of) c.in-Some.is) c.do_event.ensures.only c.in_default-do_event.ensures.comes
+    c.in_default-do_event.ensures.answer.answer.run_state (c.in_default-do_event.ensures.cause.none (λ x. cc)) c.in_default-do_event.ensures.copies
 
 pub left-smaller : goal.left-smaller
 left-smaller g c =
