@@ -68,7 +68,7 @@ pub extern "C" fn aodv_new(
     match Router::new(alloc, addrs, me, first, variant) {
         Ok(router) => match Box::new(alloc, router) {
             Ok(boxed) => {
-                *h = Handle::of(Loose::of(boxed));
+                replace(h, Handle::of(Loose::of(boxed))).let_go();
                 DONE
             }
             Err(_) => NO_MEMORY,

@@ -10,8 +10,9 @@ use std::marker::Model;
 use std::ptr::null_mut;
 
 /// A router on the heap, or none. The caller makes a handle of zeros, and never writes to it again.
+/// It isn't `Drop`, so none is dropped where a body ends: `into_loose` takes apart a handle that
+/// holds a router, and `let_go` one that holds nothing.
 #[repr(C)]
-#[derive(Drop)]
 pub struct Handle {
     at: *mut u8,
     /// Whether it holds a router.
@@ -61,6 +62,13 @@ impl Handle {
             at: at as *mut Router,
             alloc,
         }
+    }
+
+    /// Takes apart a handle that holds nothing.
+    pub(crate) fn let_go(self)
+        requires { self.live ≡ false }
+    {
+        let Handle { at: _, live: _ } = self;
     }
 
     /// Whether it holds something.

@@ -22,4 +22,4 @@ pub use errors::link_broken;
 pub use messages::{Datum, Reply, Request};
 pub use rerr::on_rerr;
 pub use rrep::{on_rrep, take_reply};
-pub use rreq::{on_rreq, take_request};
+pub use rreq::{has_seen, on_rreq, take_new_request, take_seen_request};

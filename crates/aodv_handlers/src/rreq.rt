@@ -1,8 +1,10 @@
 //! Route requests (AWN's RREQ; RFC 3561, sections 6.5 and 6.6).
-ghost use Rattle.std.specs.Prelude.{◌≡◌, ◌≢◌, ◌<◌, ◌≤◌, true, length, Some, None, Ok, IfSome, is_some, max, slice_index};
+ghost use Rattle.std.specs.Prelude.{◌≡◌, ◌≢◌, ◌<◌, ◌≤◌, true, false, length, Some, None, Ok, IfSome, is_some, max, slice_index};
 ghost use Rattle.std.specs.FinMap as maps;
 ghost use Rattle.std.specs.FinSet as sets;
-ghost use Rattle.aodv_model.specs.Cores.{Rreq as a_request, Heard};
+ghost use Rattle.mesh_base.specs.Meshes.{Nodes};
+ghost use Rattle.mesh_base.specs.Members.{NodeIds};
+ghost use Rattle.aodv_model.specs.Cores.{RouteRequest, Rreq as a_request, Heard, has_seen as is_seen};
 ghost use Rattle.aodv_model.specs.Soundness.{IsMessageInMesh};
 ghost use Rattle.aodv_model.specs.Handlers.{key_of, reply_for_self as own_reply, reply_from_table as table_reply, forward_request as forwarded, on_new_rreq, can_answer};
 ghost use Rattle.aodv_wire.specs.declared.message.Message.TheVariants.{Rreq as a_rreq};
@@ -191,10 +193,38 @@ fn mark_of(variant: Variant, m: &Request) -> u32
     }
 }
 
-/// A route request from a neighbour. From one that it has seen before, the node learns only that
-/// the neighbour is there.
+/// Whether the node has seen this request before.
 #[inline(always)]
-pub fn take_request<T: Table>(
+pub fn has_seen<T: Table>(core: &Core<T>, m: &Request) -> bool
+    requires { m.now.oip < length core.now.asked.rooms }
+    ensures { result ≡ is_seen core.now.asked.pairs (key_of core.now.variant (request_of m.now)) }
+{
+    core.asked.has(m.oip, mark_of(core.variant, m))
+}
+
+/// A route request from a neighbour, which the node has seen before: it learns only that the
+/// neighbour is there.
+#[inline(always)]
+pub fn take_seen_request<T: Table>(core: &mut Core<T>, from: usize, out: &mut Packet) -> Effect
+    requires from { from < T.nodes core.old.table }
+    requires other { from ≢ core.old.me }
+    requires order { IsInOrder T.nodes T.entries (T.nodes core.old.table) core.old }
+    requires row_from { sets.contains (T.rooms core.old.table) from ≡ true }
+    ensures does { (mesh : Nodes) (range : NodeIds) (m : RouteRequest)
+        → is_seen core.old.asked.pairs (key_of core.old.variant m) ≡ true
+        → TakesTurn T.entries mesh range (Heard from (a_request m)) core.old (Ok result) core.new
+        out.new.items }
+    ensures order { IsInOrder T.nodes T.entries (T.nodes core.old.table) core.new }
+    ensures rooms { T.rooms core.new.table ≡ T.rooms core.old.table }
+{
+    note_neighbour(&mut core.table, from);
+    out.clear();
+    casting(Cast::Nothing)
+}
+
+/// A route request from a neighbour, which the node hasn't seen before.
+#[inline(always)]
+pub fn take_new_request<T: Table>(
     core: &mut Core<T>,
     mesh: &Mesh,
     range: &NodeSet,
@@ -208,21 +238,18 @@ pub fn take_request<T: Table>(
     requires other { from ≢ core.old.me }
     requires row_from { sets.contains (T.rooms core.old.table) from ≡ true }
     requires row_oip { sets.contains (T.rooms core.old.table) m.now.oip ≡ true }
+    requires new { let key = key_of core.old.variant (request_of m.now) in
+        is_seen core.old.asked.pairs key ≡ false }
     requires asked { 0 < slice_index core.old.asked.rooms m.now.oip }
     ensures does { let item = Heard from (a_request (request_of m.now)) in
         TakesTurn T.entries mesh.now range.now item core.old result core.new out.new.items }
     ensures order { IsInOrder T.nodes T.entries (length mesh.now) core.new }
     ensures rooms { T.rooms core.new.table ≡ T.rooms core.old.table }
 {
-    let mark = mark_of(core.variant, m);
-    if core.asked.has(m.oip, mark) {
-        note_neighbour(&mut core.table, from);
-        out.clear();
-        return Ok(casting(Cast::Nothing));
-    }
     if m.hops == 255 {
         return Err(Full::Hops);
     }
+    let mark = mark_of(core.variant, m);
     let kept_from = core.table.get(from);
     let kept_oip = core.table.get(m.oip);
     note_neighbour(&mut core.table, from);
@@ -240,7 +267,7 @@ pub fn take_request<T: Table>(
     }
 }
 
-/// Does what `take_request` does, with a request that names nodes by their addresses.
+/// A route request that names nodes by their addresses, whether it was seen before or not.
 pub fn on_rreq<T: Table>(
     core: &mut Core<T>,
     mesh: &Mesh,
@@ -256,7 +283,9 @@ pub fn on_rreq<T: Table>(
     requires other { from ≢ core.old.me }
     requires row_from { sets.contains (T.rooms core.old.table) from ≡ true }
     requires row_oip { sets.contains (T.rooms core.old.table) (index mesh.now m.now.oip) ≡ true }
-    requires asked { 0 < slice_index core.old.asked.rooms (index mesh.now m.now.oip) }
+    requires asked { let key = key_of core.old.variant (request_in mesh.now m.now) in
+        is_seen core.old.asked.pairs key ≡ false
+        → 0 < slice_index core.old.asked.rooms (index mesh.now m.now.oip) }
     ensures does { let item = Heard from (a_request (request_in mesh.now m.now)) in
         TakesTurn T.entries mesh.now range.now item core.old result core.new out.new.items }
     ensures order { IsInOrder T.nodes T.entries (length mesh.now) core.new }
@@ -271,5 +300,8 @@ pub fn on_rreq<T: Table>(
         oip: mesh.index_in(m.oip),
         osn: m.osn,
     };
-    take_request(core, mesh, range, from, &request, out)
+    if has_seen(core, &request) {
+        return Ok(take_seen_request(core, from, out));
+    }
+    take_new_request(core, mesh, range, from, &request, out)
 }

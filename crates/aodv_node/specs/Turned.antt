@@ -10,8 +10,8 @@ use Rattle.mesh_base.specs.declared.events.Item.TheVariants as item
 use Rattle.mesh_base.specs.declared.events.Kind.{Kind}
 use Rattle.mesh_base.specs.declared.events.Took as taken
 use Rattle.mesh_base.specs.declared.events.Took.TheVariants as takes
-use Rattle.aodv_model.specs.Cores.{Core, Item, New, Heard, Pkt, Rreq, Rrep, Rerr}
-use Rattle.aodv_model.specs.Handlers.{turn, Took, Own, Stored, FromNeighbour, took}
+use Rattle.aodv_model.specs.Cores.{Core, Item, New, Heard, Pkt, Rreq, Rrep, Rerr, has_seen}
+use Rattle.aodv_model.specs.Handlers.{key_of, turn, Took, Own, Stored, FromNeighbour, took}
 use Rattle.aodv_model.specs.Fullness.{turn_full}
 use Rattle.aodv_wire.specs.Encodes.{refusal, message_in_fields}
 use Rattle.aodv_meaning.specs.Meaning.{stranger}
@@ -82,12 +82,12 @@ pub record IsFullAt (mesh : Nodes) (range : NodeIds) (old : NodeSeen) (field : C
   pub readable : IsReadableItem mesh front
   pub full : turn_full old.core range (item_in mesh front) ≡ Some field
 
--- a turn on the item may need memory: a datum for another node waits, and a request is kept among
--- those seen
+-- a turn on the item may need memory: a datum for another node waits, and a request that the node
+-- hasn't seen before is kept among those seen
 abbrev pub needs_memory : Core → Item → Bool
 needs_memory core (New b d) = not (d == core.ip)
 needs_memory core (Heard from (Pkt b d o)) = false
-needs_memory core (Heard from (Rreq m)) = true
+needs_memory core (Heard from (Rreq m)) = not (has_seen core.seen (key_of core.variant m))
 needs_memory core (Heard from (Rrep m)) = false
 needs_memory core (Heard from (Rerr dests)) = false
 

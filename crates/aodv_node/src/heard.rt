@@ -11,7 +11,10 @@ ghost use Rattle.aodv_node.specs.Turned.{HasAllRooms};
 use crate::answers::TurnError;
 use crate::meaning::{Meaning, meaning_of};
 use crate::rooms::{make_request, make_row};
-use aodv_handlers::{Core, Datum, Reply, Request, on_rerr, take_datum, take_reply, take_request};
+use aodv_handlers::{
+    Core, Datum, Reply, Request, has_seen, on_rerr, take_datum, take_new_request, take_reply,
+    take_seen_request,
+};
 use aodv_table::Table;
 use aodv_wire::{RerrView, read};
 use mesh_base::{Effect, Kind, Mesh, NodeSet, Packet};
@@ -78,14 +81,19 @@ fn handle_request<T: Table>(
     requires says { IsMessageInMesh (length mesh.now) (a_request (request_of m.now)) }
     requires from { from < length mesh.now }
     requires other { from ≢ core.old.me }
+    requires rows { HasAllRooms T.nodes T.rooms core.old.table }
     ensures does { let message = Heard from (a_request (request_of m.now)) in
         TakesIfRoom T.entries mesh.now range.now message core.old result core.new out.new.items }
     ensures order { IsInOrder T.nodes T.entries (length mesh.now) core.new }
 {
     make_row(core, from)?;
+    // Most requests that are heard were seen before, and these need no room of their own.
+    if has_seen(core, m) {
+        return Ok(take_seen_request(core, from, out));
+    }
     make_row(core, m.oip)?;
     make_request(core, m.oip)?;
-    match take_request(core, mesh, range, from, m, out) {
+    match take_new_request(core, mesh, range, from, m, out) {
         Ok(effect) => Ok(effect),
         Err(full) => Err(TurnError::Full(full)),
     }

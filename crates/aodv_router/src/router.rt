@@ -122,7 +122,7 @@ impl Router {
     /// in range now: a unicast to any other fails. Addresses that the mesh doesn't have are
     /// skipped. A call is refused for the first that applies of Idle, Refused, Stranger,
     /// NoMemory and Full. It can run out of memory only if the item needs some: a datum for another
-    /// node, or a route request.
+    /// node, or a route request that the node hasn't seen before.
     pub fn turn(&mut self, near: &[u32]) -> Result<Outcome, TurnError>
         ensures turn { IsTurnOf self.old near.now result self.new }
         ensures names { IfOk result (λ o. NamesTheMesh self.old.nodes o) }
