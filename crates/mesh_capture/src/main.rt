@@ -15,7 +15,7 @@ mod status;
 mod top;
 
 use mesh_io::{StdSink, StdSource};
-use mesh_shell::{texts_of, words_of};
+use mesh_shell::{texts_behind_name, words_of};
 use status::CaptureStatus;
 use std::io;
 use std::process::ExitCode;
@@ -23,7 +23,7 @@ use std::process::ExitCode;
 // Writes the capture of standard input.
 fn status_of(rt: &HostRuntime) -> Result<CaptureStatus, CaptureStatus> {
     let words = words_of(rt)?;
-    let texts = texts_of(rt.alloc(), &words)?;
+    let texts = texts_behind_name(rt.alloc(), &words)?;
     let mut input = StdSource::new(rt.stdin());
     let mut out = StdSink::new(io::writer(rt));
     let mut errors = StdSink::new(rt.stderr());

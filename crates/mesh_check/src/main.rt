@@ -12,7 +12,7 @@ mod status;
 mod top;
 
 use mesh_io::{StdSink, StdSource};
-use mesh_shell::{texts_of, words_of};
+use mesh_shell::{texts_behind_name, words_of};
 use status::CheckStatus;
 use std::io;
 use std::process::ExitCode;
@@ -20,7 +20,7 @@ use std::process::ExitCode;
 // Checks standard input, and writes to standard output.
 fn status_of(rt: &HostRuntime) -> Result<CheckStatus, CheckStatus> {
     let words = words_of(rt)?;
-    let texts = texts_of(rt.alloc(), &words)?;
+    let texts = texts_behind_name(rt.alloc(), &words)?;
     let mut input = StdSource::new(rt.stdin());
     let mut out = StdSink::new(io::writer(rt));
     Ok(top::check(rt.alloc(), &texts, &mut input, &mut out))

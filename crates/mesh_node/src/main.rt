@@ -6,7 +6,7 @@
 #![tactic(auto)]
 
 use mesh_io::{Source, StdSink, StdSource};
-use mesh_shell::{WordsError, texts_of, words_of};
+use mesh_shell::{WordsError, texts_behind_name, words_of};
 use mesh_udp::{NodeStatus, UdpLink, node_run, port_of};
 use std::io;
 use std::io::Write;
@@ -27,7 +27,7 @@ fn without_words(e: WordsError) -> NodeStatus {
 // write the script.
 fn status_of(rt: &HostRuntime) -> Result<NodeStatus, NodeStatus> {
     let words = words_of(rt).map_err(without_words)?;
-    let texts = texts_of(rt.alloc(), &words).map_err(without_words)?;
+    let texts = texts_behind_name(rt.alloc(), &words).map_err(without_words)?;
     if port_of(&texts).is_none() {
         return Err(NodeStatus::Usage);
     }

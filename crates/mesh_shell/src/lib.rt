@@ -21,4 +21,4 @@ pub use lines::run_lines;
 pub use reader::LineReader;
 pub use runner::Runner;
 pub use script::Script;
-pub use words::{WordsError, texts_of, words_of};
+pub use words::{WordsError, texts_behind_name, words_of};
