@@ -1,8 +1,7 @@
 //! The program `mesh_capture`: it reads from standard input a text that a run of the emulator has
 //! printed, and writes to standard output a capture, in the classic pcap format, with one packet
 //! for each copy that was heard or lost. The top call, over any source and sinks, has the whole
-//! contract; `main` makes the adapters over the standard streams, and ends with the status of the
-//! answer.
+//! contract; `main` calls it over the standard streams, and ends with the status of the answer.
 #![tactic(auto)]
 
 mod capturing;
@@ -14,26 +13,43 @@ mod packets;
 mod status;
 mod top;
 
-use mesh_io::{StdSink, StdSource};
-use mesh_shell::{texts_of, words_of};
+use mesh_io::{Sink, Source};
+use mesh_shell::{Program, start};
 use status::CaptureStatus;
-use std::io;
+use std::alloc::Global;
 use std::process::ExitCode;
 
-// Writes the capture of standard input.
-fn status_of(rt: &HostRuntime) -> Result<CaptureStatus, CaptureStatus> {
-    let words = words_of(rt)?;
-    let texts = texts_of(rt.alloc(), &words)?;
-    let mut input = StdSource::new(rt.stdin());
-    let mut out = StdSink::new(io::writer(rt));
-    let mut errors = StdSink::new(rt.stderr());
-    Ok(top::capture(rt.alloc(), &texts, &mut input, &mut out, &mut errors))
+/// The program.
+struct Capture;
+
+impl Program for Capture {
+    ghost use Rattle.std.specs.Prelude.{◌≡◌, ◌<◌, length};
+    ghost use Rattle.mesh_capture.specs.Codes.{code_of};
+    ghost use Rattle.mesh_capture.specs.declared.status.CaptureStatus.TheVariants.{Usage};
+
+    type Status = CaptureStatus;
+
+    ghost is_other = { λ words. 0 < length words };
+
+    ghost is_usage = { λ status. status ≡ Usage };
+
+    ghost code_of = { code_of };
+
+    fn answer<I: Source, O: Sink, E: Sink>(
+        alloc: Global,
+        words: &[&str],
+        input: &mut I,
+        out: &mut O,
+        errors: &mut E,
+    ) -> CaptureStatus {
+        top::capture(alloc, words, input, out, errors)
+    }
+
+    fn code(status: CaptureStatus) -> u8 {
+        status.code()
+    }
 }
 
 fn main(rt: HostRuntime) -> ExitCode {
-    let status = match status_of(&rt) {
-        Ok(status) => status,
-        Err(status) => status,
-    };
-    ExitCode::from(status.code())
+    start::<Capture>(&rt)
 }

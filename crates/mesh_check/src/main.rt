@@ -1,8 +1,8 @@
 //! The program `mesh_check`: it reads from standard input what `mesh run` wrote, or tables of other
 //! routers in that form, and says on standard output whether the tables shown are sound, and so
 //! have no cycle of next hops. It doesn't depend on the emulator. The top call, over any source and
-//! sink, has the whole contract; `main` makes the adapters over the standard streams, and ends with
-//! the status of the answer.
+//! sink, has the whole contract; `main` calls it over the standard streams, and ends with the
+//! status of the answer.
 #![tactic(auto)]
 
 mod laws;
@@ -11,25 +11,43 @@ mod reading;
 mod status;
 mod top;
 
-use mesh_io::{StdSink, StdSource};
-use mesh_shell::{texts_of, words_of};
+use mesh_io::{Sink, Source};
+use mesh_shell::{Program, start};
 use status::CheckStatus;
-use std::io;
+use std::alloc::Global;
 use std::process::ExitCode;
 
-// Checks standard input, and writes to standard output.
-fn status_of(rt: &HostRuntime) -> Result<CheckStatus, CheckStatus> {
-    let words = words_of(rt)?;
-    let texts = texts_of(rt.alloc(), &words)?;
-    let mut input = StdSource::new(rt.stdin());
-    let mut out = StdSink::new(io::writer(rt));
-    Ok(top::check(rt.alloc(), &texts, &mut input, &mut out))
+/// The program.
+struct Check;
+
+impl Program for Check {
+    ghost use Rattle.std.specs.Prelude.{◌≡◌, ◌<◌, length};
+    ghost use Rattle.mesh_check.specs.Codes.{code_of};
+    ghost use Rattle.mesh_check.specs.declared.status.CheckStatus.TheVariants.{Usage};
+
+    type Status = CheckStatus;
+
+    ghost is_other = { λ words. 0 < length words };
+
+    ghost is_usage = { λ status. status ≡ Usage };
+
+    ghost code_of = { code_of };
+
+    fn answer<I: Source, O: Sink, E: Sink>(
+        alloc: Global,
+        words: &[&str],
+        input: &mut I,
+        out: &mut O,
+        _errors: &mut E,
+    ) -> CheckStatus {
+        top::check(alloc, words, input, out)
+    }
+
+    fn code(status: CheckStatus) -> u8 {
+        status.code()
+    }
 }
 
 fn main(rt: HostRuntime) -> ExitCode {
-    let status = match status_of(&rt) {
-        Ok(status) => status,
-        Err(status) => status,
-    };
-    ExitCode::from(status.code())
+    start::<Check>(&rt)
 }

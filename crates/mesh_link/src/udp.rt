@@ -1,5 +1,9 @@
 //! The adapter over a socket.
-ghost use Rattle.std.specs.Prelude.{◌≡◌, ◌≤◌, None};
+ghost use Rattle.std.specs.Prelude.{◌≡◌, ◌≤◌, ◌∷◌, [], None};
+ghost use Rattle.std.specs.Net.Addr.{ipv4_octets};
+ghost use Rattle.std.specs.Net.Socket.{v4_ip, v4_port};
+ghost use Rattle.std.specs.declared.net.socket_addr.SocketAddrV4.{SocketAddrV4};
+ghost use Rattle.std.specs.declared.net.socket_addr.SocketAddr.TheVariants.{V4};
 ghost use Rattle.mesh_io.specs.Cause.{Rose};
 
 use crate::link::Link;
@@ -22,8 +26,11 @@ pub struct UdpLink<'a, R> {
     faults: u64,
 }
 
-// A port of this machine.
-fn local(port: u16) -> SocketAddr {
+// A port of this machine, at the address 127.0.0.1, which only its own processes reach.
+fn local(port: u16) -> SocketAddr
+    ensures address { (at : SocketAddrV4) × (result ≡ V4 at)
+        × (ipv4_octets (v4_ip at) ≡ 127 ∷ 0 ∷ 0 ∷ 1 ∷ []) × (v4_port at ≡ port) }
+{
     SocketAddr::V4(SocketAddrV4::new(Ipv4Addr::LOCALHOST, port))
 }
 

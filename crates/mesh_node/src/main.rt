@@ -6,28 +6,19 @@
 #![tactic(auto)]
 
 use mesh_io::{Source, StdSink, StdSource};
-use mesh_shell::{WordsError, texts_of, words_of};
+use mesh_shell::{texts_behind_name, words_of};
 use mesh_udp::{NodeStatus, UdpLink, node_run, port_of};
 use std::io;
 use std::io::Write;
 use std::process::ExitCode;
-
-// The status if the command line's words can't be taken. Words that aren't text are in none of the
-// program's forms.
-fn without_words(e: WordsError) -> NodeStatus {
-    match e {
-        WordsError::NotText => NodeStatus::Usage,
-        WordsError::NoMemory => NodeStatus::NoMemory,
-    }
-}
 
 // Runs the router over standard input and output and a socket. Words that name no port are reported
 // first, whatever the streams are. If one of the two streams is closed, that is reported before a
 // socket is opened: the socket would take the stream's place, and whoever sends datagrams would
 // write the script.
 fn status_of(rt: &HostRuntime) -> Result<NodeStatus, NodeStatus> {
-    let words = words_of(rt).map_err(without_words)?;
-    let texts = texts_of(rt.alloc(), &words).map_err(without_words)?;
+    let words = words_of(rt)?;
+    let texts = texts_behind_name(rt.alloc(), &words)?;
     if port_of(&texts).is_none() {
         return Err(NodeStatus::Usage);
     }

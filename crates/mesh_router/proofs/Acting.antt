@@ -120,6 +120,8 @@ causes_of_sink a b c r h = record {
   link_later = omega arith;
   write = h.write;
   send = λ is. absurd (h.link is);
+  no_write = h.none;
+  no_send = λ is. refl;
 }
 
 -- ---- a send or a request that isn't done

@@ -125,10 +125,12 @@ pub rose-from : (a b c : ℕ) → a ≤ b → Rose b c → Rose a c
 rose-from a b c p q = omega arith
 
 -- the causes of what is done later
-pub causes-join : {T : Type 0} (a b c d e f : ℕ) (r : Result T Stop) → a ≤ b → d ≤ e → HasCauses b c e f r → HasCauses a c d f r
+pub causes-join : {T : Type 0} (a b c d e f : ℕ) (r : Result T Stop) → b ≡ a → e ≡ d → HasCauses b c e f r → HasCauses a c d f r
 causes-join a b c d e f r p q h = record {
   sink_later = (let up = h.sink_later in omega arith);
   link_later = (let up = h.link_later in omega arith);
-  write = λ is. rose-from a b c p (h.write is);
-  send = λ is. rose-from d e f q (h.send is);
+  write = λ is. (let rose = h.write is in omega arith);
+  send = λ is. (let rose = h.send is in omega arith);
+  no_write = λ is. h.no_write is ∙ p;
+  no_send = λ is. h.no_send is ∙ q;
 }

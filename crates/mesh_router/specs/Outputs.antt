@@ -34,13 +34,16 @@ abbrev pub Says : {T : Type 0} → Outputs → Outputs → Log → Result T Stop
 Says before now log result =
     MatchResult result (λ _. Adds before now log) (λ _. AddsPrefix before now log)
 
--- a fault is answered only if the sink or the link has failed in this call
+-- a fault is answered only if the sink or the link has failed in this call, and no other answer
+-- comes if one of them has
 pub record HasCauses {T : Type 0} (sink sink_now link link_now : ℕ) (result : Result T Stop)
     : Type 0 where
   pub sink_later : sink ≤ sink_now
   pub link_later : link ≤ link_now
   pub write : IsErrOf result stop.WriteFault → Rose sink sink_now
   pub send : IsErrOf result stop.LinkFault → Rose link link_now
+  pub no_write : ¬ IsErrOf result stop.WriteFault → sink_now ≡ sink
+  pub no_send : ¬ IsErrOf result stop.LinkFault → link_now ≡ link
 
 -- the stop is a fault of the sink or of the link
 abbrev pub IsFault : Stop → Type 0
@@ -48,8 +51,10 @@ IsFault stop.WriteFault = ⊤
 IsFault stop.LinkFault = ⊤
 IsFault others = ⊥
 
--- a call that has nothing to do with a link answers a fault only if the sink has failed
+-- a call that has nothing to do with a link answers a fault only if the sink has failed, and no
+-- other answer comes if it has
 pub record HasSinkCause {T : Type 0} (before now : ℕ) (result : Result T Stop) : Type 0 where
   pub later : before ≤ now
   pub write : IsErrOf result stop.WriteFault → Rose before now
+  pub none : ¬ IsErrOf result stop.WriteFault → now ≡ before
   pub link : ¬ IsErrOf result stop.LinkFault

@@ -48,13 +48,18 @@ pub record HasLed {O L : Type 0} (sink : sinks.Ghosts O) (link : links.Ghosts L)
   pub count : new.at.now.lines ≡ old.at.now.lines + length lines
   pub grown : IsGrown (most_grown * length lines) (router_in old.at.now.stage)
       (router_in new.at.now.stage)
+  pub no_write : sink.faults new.out.now ≡ sink.faults old.out.now
+  pub no_send : link.faults new.link.now ≡ link.faults old.link.now
 
--- the run has ended, and a fault that is answered is the sink's or the link's and has its cause
+-- the run has ended, and a fault that is answered is the sink's or the link's and has its cause; no
+-- other answer comes if one of them has failed
 pub record HasAnswered {O L : Type 0} (sink : sinks.Ghosts O) (link : links.Ghosts L)
     (old new : Routing O L) (answer : NodeStatus) : Type 0 where
   pub kept : IsKept sink link old new
   pub write : answer ≡ WriteFault → Rose (sink.faults old.out.now) (sink.faults new.out.now)
   pub send : answer ≡ LinkFault → Rose (link.faults old.link.now) (link.faults new.link.now)
+  pub no_write : answer ≢ WriteFault → sink.faults new.out.now ≡ sink.faults old.out.now
+  pub no_send : answer ≢ LinkFault → link.faults new.link.now ≡ link.faults old.link.now
   pub words : answer ≢ Usage
   pub read : answer ≢ ReadFault
 

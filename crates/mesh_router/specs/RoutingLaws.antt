@@ -57,6 +57,8 @@ stays_there sink link a = record {
   goes = λ others finds are. refl;
   count = omega arith;
   grown = record { heard = omega arith; sent = omega arith; dropped = omega arith };
+  no_write = refl;
+  no_send = refl;
 }
 
 -- what lines and then others lead to is what all of them lead to
@@ -87,6 +89,8 @@ joins_both sink link a b c lines others p q =
           (sym size)
           (grown_both (length lines) (length others) (router_in a.at.now.stage)
           (router_in b.at.now.stage) (router_in c.at.now.stage) p.grown q.grown);
+      no_write = q.no_write ∙ p.no_write;
+      no_send = q.no_send ∙ p.no_send;
     }
 
 -- each line has at least one byte, with its LF

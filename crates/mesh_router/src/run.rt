@@ -52,6 +52,10 @@ fn one<O: Sink, L: Link>(
         → Rose (O.faults out.old) (O.faults out.new) }
     ensures send { result ≡ Err NodeStatus.LinkFault
         → Rose (L.faults link.old) (L.faults link.new) }
+    ensures no_write { result ≢ Err NodeStatus.WriteFault
+        → O.faults out.new ≡ O.faults out.old }
+    ensures no_send { result ≢ Err NodeStatus.LinkFault
+        → L.faults link.new ≡ L.faults link.old }
     ensures done { result ≢ Err NodeStatus.Done }
     ensures read { result ≢ Err NodeStatus.ReadFault }
     ensures words { result ≢ Err NodeStatus.Usage }
@@ -176,6 +180,11 @@ fn route<R: LineReader, O: Sink, L: Link>(
         → Rose (O.faults routing.old.out.now) (O.faults routing.new.out.now) }
     ensures send { result ≡ NodeStatus.LinkFault
         → Rose (L.faults routing.old.link.now) (L.faults routing.new.link.now) }
+    ensures no_read { result ≢ NodeStatus.ReadFault → R.faults lines.new ≡ R.faults lines.old }
+    ensures no_write { result ≢ NodeStatus.WriteFault
+        → O.faults routing.new.out.now ≡ O.faults routing.old.out.now }
+    ensures no_send { result ≢ NodeStatus.LinkFault
+        → L.faults routing.new.link.now ≡ L.faults routing.old.link.now }
     ensures sink { O.faults routing.old.out.now ≤ O.faults routing.new.out.now }
     ensures links { L.faults routing.old.link.now ≤ L.faults routing.new.link.now }
     ensures port { L.port routing.new.link.now ≡ L.port routing.old.link.now }
@@ -208,6 +217,11 @@ pub fn run_script<I: Source, O: Sink, L: Link>(
     ensures write { result ≡ NodeStatus.WriteFault → Rose (O.faults out.old) (O.faults out.new) }
     ensures send { result ≡ NodeStatus.LinkFault
         → Rose (L.faults link.old) (L.faults link.new) }
+
+    // No other answer comes if one of them has failed.
+    ensures no_read { result ≢ NodeStatus.ReadFault → I.faults input.new ≡ I.faults input.old }
+    ensures no_write { result ≢ NodeStatus.WriteFault → O.faults out.new ≡ O.faults out.old }
+    ensures no_send { result ≢ NodeStatus.LinkFault → L.faults link.new ≡ L.faults link.old }
 
     // The sink's and the link's counts of faults don't fall, and the link stays open at its port.
     ensures sink { O.faults out.old ≤ O.faults out.new }

@@ -2,6 +2,8 @@
 ghost use Rattle.std.specs.Prelude.{◌≡◌};
 ghost use Rattle.mesh_router.specs.Codes.{code_of};
 
+use mesh_shell::WordsError;
+
 /// What the run of a script came to.
 #[derive(Clone, Copy, Debug, PartialEq, Eq)]
 pub enum NodeStatus {
@@ -37,6 +39,19 @@ impl NodeStatus {
             NodeStatus::WriteFault => 6,
             NodeStatus::NoMemory => 7,
             NodeStatus::LinkFault => 8,
+        }
+    }
+}
+
+impl From<WordsError> for NodeStatus {
+    ghost use Rattle.mesh_router.specs.Codes.{without_words};
+
+    ghost from_gives = { λ e status. status ≡ without_words e };
+
+    fn from(e: WordsError) -> NodeStatus {
+        match e {
+            WordsError::NotText => NodeStatus::Usage,
+            WordsError::NoMemory => NodeStatus::NoMemory,
         }
     }
 }

@@ -12,6 +12,7 @@ mod reader;
 mod runner;
 mod script;
 mod scripted;
+mod starting;
 mod words;
 
 pub use driving::run;
@@ -21,4 +22,5 @@ pub use lines::run_lines;
 pub use reader::LineReader;
 pub use runner::Runner;
 pub use script::Script;
-pub use words::{WordsError, texts_of, words_of};
+pub use starting::{Program, start};
+pub use words::{WordsError, texts_behind_name, words_of};

@@ -41,7 +41,7 @@ pub fn run_lines<R: Runner, L: LineReader>(runner: &mut R, lines: &mut L) -> R::
         if let Some(answer) = hand_on(runner, lines) {
             return answer;
         }
-        match lines.advance() {
+        match lines.advance(&*runner) {
             Ok(true) => match runner.line(lines.line()) {
                 None => {}
                 Some(answer) => return answer,

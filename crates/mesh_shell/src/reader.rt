@@ -6,6 +6,7 @@ ghost use Rattle.mesh_io.specs.Cutting.{Tells, IsCounted, HasNoLf};
 ghost use Rattle.mesh_io.specs.Decisions.{decides};
 ghost use Rattle.mesh_io.specs.declared.limits.Limits.{Limits};
 
+use crate::runner::Runner;
 use mesh_io::{Cutter, LineError, Source};
 
 /// A source that is cut into lines, whatever room it has for them.
@@ -43,8 +44,12 @@ pub trait LineReader {
         ensures { result ≡ decides (limits self.now) (given self.now)
             (ended self.now) (pending self.now) };
 
-    /// Finds the next line: false only if the input has ended.
-    fn advance(&mut self) -> Result<bool, LineError>
+    /// Finds the next line for a runner: false only if the input has ended. This is the one call
+    /// that reads, and it asks that the runner has handed on all that is gathered, unless the answer
+    /// needs no read: no text is held back while a read waits.
+    fn advance<R: Runner>(&mut self, runner: &R) -> Result<bool, LineError>
+        requires handed_on { decides (limits self.old) (given self.old) (ended self.old)
+            (pending self.old) ≡ false → R.has_handed_on runner.now }
         ensures same { name self.new ≡ name self.old }
         ensures most { limits self.new ≡ limits self.old }
         ensures known { IfSome (prepend_known (pending self.old) (left self.old)) (λ bytes.
@@ -89,7 +94,7 @@ impl<'s, S: Source, const CAPACITY: usize> LineReader for Cutter<'s, S, CAPACITY
         self.is_decided()
     }
 
-    fn advance(&mut self) -> Result<bool, LineError> {
+    fn advance<R: Runner>(&mut self, _runner: &R) -> Result<bool, LineError> {
         self.advance()
     }
 }

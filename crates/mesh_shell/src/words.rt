@@ -1,5 +1,5 @@
 //! The words of a command line, as the programs take them.
-ghost use Rattle.std.specs.Prelude.{◌≡◌, map, IfOk, IfErr};
+ghost use Rattle.std.specs.Prelude.{◌≡◌, drop, map, IfOk, IfErr};
 ghost use Rattle.std.specs.String.{string_bytes};
 
 use std::alloc::Global;
@@ -18,7 +18,7 @@ pub enum WordsError {
     NoMemory,
 }
 
-/// The words of the command line without the program's name.
+/// The words of the command line, with the program's name.
 pub fn words_of<R: Env + AllocGlobal>(rt: &R) -> Result<Vec<String>, WordsError> {
     let given = match env::args(rt) {
         Ok(given) => given,
@@ -26,7 +26,7 @@ pub fn words_of<R: Env + AllocGlobal>(rt: &R) -> Result<Vec<String>, WordsError>
         Err(_) => return Err(WordsError::NotText),
     };
     let mut words = Vec::new(rt.alloc());
-    for word in given.skip(1) {
+    for word in given {
         if words.push(word).is_err() {
             return Err(WordsError::NoMemory);
         }
@@ -43,4 +43,14 @@ pub fn texts_of(alloc: Global, words: &[String]) -> Result<Vec<&str>, WordsError
         Ok(texts) => Ok(texts),
         Err(_) => Err(WordsError::NoMemory),
     }
+}
+
+/// The words behind the program's name, which stands first, as string slices.
+pub fn texts_behind_name(alloc: Global, words: &[String]) -> Result<Vec<&str>, WordsError>
+    ensures same { IfOk result (λ all.
+        map (λ t. t.now) all.items ≡ map string_bytes (drop 1 words.now)) }
+    ensures fault { IfErr result (λ e. e ≡ WordsError.NoMemory) }
+{
+    let (_, rest) = words.split_at(words.len().min(1));
+    texts_of(alloc, rest)
 }

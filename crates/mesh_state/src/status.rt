@@ -4,6 +4,7 @@ ghost use Rattle.mesh_state.specs.Codes.{part_reason, error_reason};
 
 use mesh_load::StateError;
 use mesh_run::Status;
+use mesh_shell::WordsError;
 use mesh_world::Part;
 
 /// What a call came to.
@@ -69,5 +70,16 @@ impl StateStatus {
             StateStatus::BadState(why) => error_reason(*why),
             StateStatus::TooBig => b"the checkpoint would be too long\n",
         }
+    }
+}
+
+impl From<WordsError> for StateStatus {
+    ghost use Rattle.mesh_run.specs.Codes.{status_without_words};
+    ghost use Rattle.mesh_state.specs.declared.status.StateStatus.TheVariants.{Run};
+
+    ghost from_gives = { λ error status. status ≡ Run (status_without_words error) };
+
+    fn from(error: WordsError) -> StateStatus {
+        StateStatus::Run(Status::from(error))
     }
 }

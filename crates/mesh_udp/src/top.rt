@@ -1,5 +1,5 @@
 //! The top call.
-ghost use Rattle.std.specs.Prelude.{◌≡◌, ◌↔◌, ◌⊎◌, map, None, IfSome};
+ghost use Rattle.std.specs.Prelude.{◌≡◌, ◌≢◌, ◌↔◌, ◌⊎◌, map, None, IfSome};
 ghost use Rattle.std.specs.Io.KnownBytes.{IsAtEnd};
 ghost use Rattle.mesh_io.specs.Cause.{Rose};
 ghost use Rattle.mesh_router.specs.Output.{IsScriptRun};
@@ -52,6 +52,14 @@ pub fn node_run<I: Source, O: Sink, L: Link>(
         → Rose (O.faults out.old) (O.faults out.new) }
     ensures cause_of_link_fault { result ≡ NodeStatus.LinkFault
         → Rose (L.faults link.old) (L.faults link.new) }
+
+    // No other answer comes if one of them has failed.
+    ensures no_other_fault_of_input { result ≢ NodeStatus.ReadFault
+        → I.faults input.new ≡ I.faults input.old }
+    ensures no_other_fault_of_out { result ≢ NodeStatus.WriteFault
+        → O.faults out.new ≡ O.faults out.old }
+    ensures no_other_fault_of_link { result ≢ NodeStatus.LinkFault
+        → L.faults link.new ≡ L.faults link.old }
 
     // If nothing has failed, the script has its verdict, unless memory runs out.
     ensures complete { IfSome (port_of (map (λ w. w.now) words.now)) (λ port.

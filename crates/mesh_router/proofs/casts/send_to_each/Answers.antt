@@ -10,8 +10,8 @@ loop-x-init g c = record {
   adds = none_sent c.args.peers.now c.args.packet.now.items c.args.to.now (g.O.Sink.held c.args.out.now, g.L.Link.sent c.args.link.now);
   count = let few = members-few 0 c.args.to.now in omega arith;
   within = omega arith;
-  sink = omega arith;
-  links = omega arith;
+  sink = refl;
+  links = refl;
   port = refl;
   arrived = refl;
 }
@@ -43,8 +43,8 @@ loop-x-preserved g c =
       adds = next_sent c.args.peers.now c.args.packet.now.items c.args.to.now c.in-Some.x c.loop-x.start _ (g.O.Sink.held c.loop-x.out, g.L.Link.sent c.loop-x.link) _ is.0 is.1 is.2 at.adds c.in_ok-send_to.ensures.says;
       count = omega (arith, at.count, count);
       within = omega arith;
-      sink = omega (arith, at.sink, later.sink_later);
-      links = omega (arith, at.links, later.link_later);
+      sink = later.no_write (λ is. cc) ∙ at.sink;
+      links = later.no_send (λ is. cc) ∙ at.links;
       port = c.in_ok-send_to.ensures.port ∙ at.port;
       arrived = c.in_ok-send_to.ensures.arrived ∙ at.arrived;
     }

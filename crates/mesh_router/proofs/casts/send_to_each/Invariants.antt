@@ -9,8 +9,8 @@ invariant-loop-x g l = record {
   adds : Adds (g.O.Sink.held l.fn.out, g.L.Link.sent l.fn.link) (g.O.Sink.held l.out, g.L.Link.sent l.link) (sent_to_each l.peers l.packet.items (members_below l.start l.to));
   count : l.count ≡ length (members_below l.start l.to);
   within : l.start ≤ length l.peers.mesh;
-  sink : g.O.Sink.faults l.fn.out ≤ g.O.Sink.faults l.out;
-  links : g.L.Link.faults l.fn.link ≤ g.L.Link.faults l.link;
+  sink : g.O.Sink.faults l.out ≡ g.O.Sink.faults l.fn.out;
+  links : g.L.Link.faults l.link ≡ g.L.Link.faults l.fn.link;
   port : g.L.Link.port l.link ≡ g.L.Link.port l.fn.link;
   arrived : g.L.Link.arrived l.link ≡ g.L.Link.arrived l.fn.link;
 }

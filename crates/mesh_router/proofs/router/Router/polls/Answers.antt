@@ -9,8 +9,8 @@ loop-i-init g c = record {
   polled = polls_at c.args.count c.args.count _ _ _ _ _ _ _ (polls_begin c.args.count c.args.self.now _ _) (omega arith);
   grown = record { heard = omega arith; sent = omega arith; dropped = omega arith };
   peers = refl;
-  sink = omega arith;
-  links = omega arith;
+  sink = refl;
+  links = refl;
   port = refl;
 }
 
@@ -44,8 +44,8 @@ loop-i-preserved g c =
         dropped = omega (arith, at.grown.dropped, call.grown.dropped);
       };
       peers = call.peers ∙ at.peers;
-      sink = omega (arith, at.sink, call.causes.sink_later);
-      links = omega (arith, at.links, call.causes.link_later);
+      sink = call.causes.no_write (λ is. cc) ∙ at.sink;
+      links = call.causes.no_send (λ is. cc) ∙ at.links;
       port = call.port ∙ at.port;
     }
 

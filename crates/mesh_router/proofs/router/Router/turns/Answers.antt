@@ -14,8 +14,8 @@ loop-i-init g c = record {
   grown = record { heard = omega arith; sent = omega arith; dropped = omega arith };
   few = omega arith;
   peers = refl;
-  sink = omega arith;
-  links = omega arith;
+  sink = refl;
+  links = refl;
   port = refl;
   arrived = refl;
 }
@@ -53,8 +53,8 @@ loop-i-preserved g c =
       };
       few = omega arith;
       peers = call.peers ∙ at.peers;
-      sink = omega (arith, at.sink, call.causes.sink_later);
-      links = omega (arith, at.links, call.causes.link_later);
+      sink = call.causes.no_write (λ is. cc) ∙ at.sink;
+      links = call.causes.no_send (λ is. cc) ∙ at.links;
       port = call.port ∙ at.port;
       arrived = call.arrived ∙ at.arrived;
     }

@@ -12,8 +12,8 @@ invariant-loop-i g l = record {
   grown : IsGrown (MOST_NODES * l._i) l.fn.self l.self;
   few : l._i ≤ l.count;
   peers : l.self.peers ≡ l.fn.self.peers;
-  sink : g.O.Sink.faults l.fn.out ≤ g.O.Sink.faults l.out;
-  links : g.L.Link.faults l.fn.link ≤ g.L.Link.faults l.link;
+  sink : g.O.Sink.faults l.out ≡ g.O.Sink.faults l.fn.out;
+  links : g.L.Link.faults l.link ≡ g.L.Link.faults l.fn.link;
   port : g.L.Link.port l.link ≡ g.L.Link.port l.fn.link;
   arrived : g.L.Link.arrived l.link ≡ g.L.Link.arrived l.fn.link;
 }

@@ -17,6 +17,8 @@ returns g c =
         };
         write = c.finish.ensures.write;
         send = λ e. absurd (c.finish.ensures.link e);
+        no_write = c.finish.ensures.none;
+        no_send = λ is. refl;
         words = c.finish.ensures.words;
         read = c.finish.ensures.read;
       };

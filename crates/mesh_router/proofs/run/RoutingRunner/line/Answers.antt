@@ -22,4 +22,6 @@ returns-in-Ok-clause-goes g c =
       goes = line_goes old.at.now c.one.new.at (Whole c.args.line.now) (g.L.Link.arrived old.link.now) (g.L.Link.arrived c.one.new.link) (g.O.Sink.held old.out.now, g.L.Link.sent old.link.now) (g.O.Sink.held c.one.new.out, g.L.Link.sent c.one.new.link) did;
       count = c.in-Ok.ensures.lines;
       grown = record { heard = omega (arith, grown.heard); sent = omega (arith, grown.sent); dropped = omega (arith, grown.dropped) };
+      no_write = c.one.ensures.no_write (λ is. cc);
+      no_send = c.one.ensures.no_send (λ is. cc);
     }

@@ -24,6 +24,8 @@ returns g c =
         };
         write = c.refuse.ensures.write;
         send = λ e. absurd (c.refuse.ensures.link e);
+        no_write = c.refuse.ensures.none;
+        no_send = λ is. refl;
         words = c.refuse.ensures.words;
         read = c.refuse.ensures.read;
       };
