@@ -14,7 +14,7 @@ use Rattle.mesh_text.specs.Text.{On, Full, outcome_of_auto, text_in}
 use Rattle.mesh_run.specs.declared.stop.Stop.{Stop}
 use Rattle.mesh_run.specs.Runs.{IsLineDone, IsLineStopped, outcome_by, IsEventsDone, IsEventsRun, events_due}
 use Rattle.mesh_run.proofs.Shown.{shown_none}
-use Rattle.mesh_run.proofs.Chosen.{due_all, due_none, due_next, on_then, on_stops, full_stops, line_goes, line_front, line_end_front, line_stops}
+use Rattle.mesh_run.proofs.Chosen.{due_all, due_next, on_then, on_stops, full_stops, line_goes, line_front, line_end_front, line_stops}
 use Rattle.mesh_blocks.specs.declared.below.Below.{Below}
 use Rattle.mesh_blocks.specs.Forms.{below_text}
 use Rattle.mesh_blocks.specs.Text.{watched_events, watched_line}
@@ -26,11 +26,6 @@ use Rattle.mesh_blocks.specs.Lines.{with_below, watched_event}
 pub chosen_all : (most did : ℕ) (m : RunState) → most ≤ did → events_chosen (most - did) m ≡ []
 unfolding events_due
 chosen_all most did m h = due_all None most did m h
-
--- none is left to be chosen
-pub chosen_none : (k : ℕ) (m : RunState) → None ≡ pick (world_of m) → events_chosen k m ≡ []
-unfolding events_due
-chosen_none k m h = due_none None k m h
 
 chosen_next : (most did : ℕ) (m : RunState) (e : Event) → did < most → Some e ≡ pick (world_of m)
     → events_chosen (most - did) m ≡ event_then m e (outcome_at m e) (λ n. events_chosen (most - (did + 1)) n)

@@ -1,7 +1,8 @@
 use Rattle.std.proofs.Common.{◌∙◌, ◌-◌, length, Ok, Err, ap, arith}
 use Rattle.mesh_meaning.specs.Events.{event_of}
 use Rattle.mesh_run.proofs.Events.{stepped_started, stepped_lines, stepped_steps}
-use Rattle.mesh_blocks.proofs.Chosen.{chosen_all, chosen_none, chosen_counts, nothing_more, ran_goes, ran_stops}
+use Rattle.mesh_run.proofs.Chosen.{chosen_none}
+use Rattle.mesh_blocks.proofs.Chosen.{chosen_all, chosen_counts, nothing_more, ran_goes, ran_stops}
 use Rattle.mesh_blocks.proofs.auto.do_events.Goals as goal
 
 pub returns-in_default-clause-ran : goal.returns-in_default-clause-ran
