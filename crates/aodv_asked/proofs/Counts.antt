@@ -3,6 +3,7 @@ use Rattle.std.proofs.Common.{◌≡◌, ◌<◌, ◌≤◌, ℕ, zero, suc, ◌
 use Rattle.std.specs.Prelude.{min}
 use Rattle.std.specs.FinSet as sets
 use Rattle.std.proofs.lemmas.Bool.{cases_lt, le-leb, lt-leb}
+use Rattle.std.proofs.Math.Bool.{or-true}
 use Rattle.mesh_base.specs.Members.{members_below}
 use Rattle.aodv_model.specs.Cores.{SeenRequests, next_request_id}
 use Rattle.aodv_model.specs.Soundness.{AreBelow}
@@ -83,16 +84,12 @@ counted_cons (suc n) lo v vs apart =
     let one = next_count v.first v.last n (is_in vs n) apart.1 (λ le. is_in_after (v.last + 2) vs n apart.2 (omega arith)) in
     omega arith
 
-or_true : (b : Bool) → (b || true) ≡ true
-or_true true = refl
-or_true false = refl
-
 counted_all : (n lo : ℕ) (vs : List Interval) → AreApart lo vs → ((q : ℕ) → is_in vs q ≡ true → q < n) → counted n vs ≡ total vs
 unfolding is_in
 counted_all n lo [] apart below = counted_none n
 counted_all n lo (v ∷ vs) apart below =
     let last : v.last < n = below v.last (rw (le-leb v.first v.last apart.1, le-leb v.last v.last (omega arith)) refl) in
-    let rest = counted_all n (v.last + 2) vs apart.2 (λ q t. below q (ap (λ b. (leb v.first q && leb q v.last) || b) t ∙ or_true (leb v.first q && leb q v.last))) in
+    let rest = counted_all n (v.last + 2) vs apart.2 (λ q t. below q (ap (λ b. (leb v.first q && leb q v.last) || b) t ∙ or-true (leb v.first q && leb q v.last))) in
     let first = counted_cons n lo v vs apart in
     let some : v.first ≤ v.last = apart.1 in
     omega arith

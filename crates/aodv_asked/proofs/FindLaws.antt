@@ -1,8 +1,7 @@
 -- Which ids the intervals have, by a position among them.
-use Rattle.std.proofs.Common.{◌≡◌, ◌<◌, ◌≤◌, ℕ, zero, suc, ◌+◌, Bool, true, false, ltb, leb, ◌&&◌, ◌||◌, List, [], ◌∷◌, length, Some, None, refl, sym, ap, ◌∙◌, arith, ◌⊎◌, inl, inr}
+use Rattle.std.proofs.Common.{◌≡◌, ◌<◌, ◌≤◌, ℕ, zero, suc, ◌+◌, Bool, true, false, leb, ◌&&◌, ◌||◌, List, [], ◌∷◌, length, Some, None, refl, sym, ap, ◌∙◌, arith, ◌⊎◌, inl, inr}
 use Rattle.std.specs.List.Sorted.{IsNonDecreasingBy}
 use Rattle.std.proofs.lemmas.Bool.{le-leb, lt-leb, cases_lt}
-use Rattle.std.proofs.lemmas.Bool.Decides.{nat_tests}
 use Rattle.std.proofs.lemmas.List.{get_or_default}
 use Rattle.std.specs.FinSet.{contains}
 use Rattle.mesh_base.specs.Members.{IsLeastFrom}
@@ -11,13 +10,9 @@ use Rattle.aodv_asked.specs.Intervals.{ids_in, AreApart}
 use Rattle.aodv_asked.specs.Insertions.{interval, interval_at, is_in}
 use Rattle.aodv_asked.specs.Spots.{IsPosition}
 use Rattle.aodv_asked.proofs.IntervalLaws.{contains-ids_in}
+use Rattle.aodv_asked.proofs.Counts.{whole_interval}
 
 -- ---- the intervals rise
-
-some_in : (low : ℕ) (vs : List Interval) (i : ℕ) → AreApart low vs → i < length vs → (interval_at vs i).first ≤ (interval_at vs i).last
-some_in low [] i apart lt = absurd (omega arith)
-some_in low (v ∷ vs) zero apart lt = apart.1
-some_in low (v ∷ vs) (suc i) apart lt = some_in (v.last + 2) vs i apart.2 (omega arith)
 
 from_low : (low : ℕ) (vs : List Interval) (i : ℕ) → AreApart low vs → i < length vs → low ≤ (interval_at vs i).first
 from_low low [] i apart lt = absurd (omega arith)
@@ -30,7 +25,7 @@ rises low [] i j apart le lt = absurd (omega arith)
 rises low (v ∷ vs) zero zero apart le lt = (omega arith, omega arith)
 rises low (v ∷ vs) zero (suc j) apart le lt =
     let later = from_low (v.last + 2) vs j apart.2 (omega arith) in
-    let some = some_in (v.last + 2) vs j apart.2 (omega arith) in
+    let some = whole_interval (v.last + 2) vs j apart.2 (omega arith) in
     (omega (arith, apart.1), omega arith)
 rises low (v ∷ vs) (suc i) zero apart le lt = absurd (omega arith)
 rises low (v ∷ vs) (suc i) (suc j) apart le lt = rises (v.last + 2) vs i j apart.2 (omega arith) (omega arith)
@@ -96,20 +91,10 @@ least_past vs from position apart at past q le = none_from vs from position q ap
 pub least_first : (vs : List Interval) (from position : ℕ) (v : Interval) → AreApart 0 vs → IsPosition vs from position → position < length vs → interval_at vs position ≡ v → from ≤ v.first → IsLeastFrom (ids_in vs) from (Some v.first)
 least_first vs from position v apart at lt is le =
     let first : (interval_at vs position).first ≡ v.first = ap (λ (x : Interval). x.first) is in
-    let some = some_in 0 vs position apart lt in
+    let some = whole_interval 0 vs position apart lt in
     (le, there vs position v.first apart lt (omega arith) (omega arith), λ q low less. none_early vs from position q apart at low (λ _. omega arith))
 
 pub least_inside : (vs : List Interval) (from position : ℕ) (v : Interval) → AreApart 0 vs → IsPosition vs from position → position < length vs → interval_at vs position ≡ v → v.first < from → IsLeastFrom (ids_in vs) from (Some from)
 least_inside vs from position v apart at lt is less =
     let first : (interval_at vs position).first ≡ v.first = ap (λ (x : Interval). x.first) is in
     (omega arith, there vs position from apart lt (omega arith) (at.after position (omega arith) lt), λ q low high. absurd (omega arith))
-
--- ---- the greatest
-
--- ---- tests
-
-pub below_if : (m n : ℕ) → ltb m n ≡ true → m < n
-below_if m n h = grind (arith, nat_tests)
-
-pub from_if : (m n : ℕ) → ltb m n ≡ false → n ≤ m
-from_if m n h = grind (arith, nat_tests)

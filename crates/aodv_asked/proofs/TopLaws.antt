@@ -1,8 +1,9 @@
 -- Ids and an interval that stands behind them.
 use Rattle.std.proofs.Common.{◌≡◌, ◌<◌, ◌≤◌, ℕ, zero, suc, ◌+◌, ◌-◌, Bool, true, false, eqb, ltb, leb, ◌&&◌, ◌||◌, List, [], ◌∷◌, ◌++◌, length, length-append, max, take, Option, Some, None, refl, sym, ap, subst, ◌∙◌, arith, ◌⊎◌, inl, inr, IsTrue}
-use Rattle.std.proofs.lemmas.Bool.{le-leb, lt-leb, cases_lt}
+use Rattle.std.proofs.lemmas.Bool.{le-leb, lt-leb, cases_lt, leb-true, eqb-true}
 use Rattle.std.proofs.lemmas.Bool.Decides.{nat_tests}
 use Rattle.std.proofs.lemmas.Cmp.{nat_cmp_total}
+use Rattle.std.proofs.Math.Bool.{or-true, or-false, and-false}
 use Rattle.std.specs.Cmp.{unsigned_tied}
 use Rattle.std.specs.List.{remove}
 use Rattle.std.specs.Ordering.{nat_cmp}
@@ -33,31 +34,13 @@ contains-inserted ids id q =
 same_ids : (a b : IdSet) → ((q : ℕ) → contains a q ≡ contains b q) → a ≡ b
 same_ids a b same = same_set nat_cmp_total nat_cmp-IsAntisymmetric a b same
 
-at_most : (m n : ℕ) → leb m n ≡ true → m ≤ n
-at_most m n h = grind (arith, nat_tests)
-
-same_number : (m n : ℕ) → eqb m n ≡ true → m ≡ n
-same_number m n h = grind (arith, nat_tests)
-
-or_true : (b : Bool) → (b || true) ≡ true
-or_true true = refl
-or_true false = refl
-
-or_false : (b : Bool) → (b || false) ≡ b
-or_false true = refl
-or_false false = refl
-
-and_false : (b : Bool) → (b && false) ≡ false
-and_false true = refl
-and_false false = refl
-
 -- from the interval on the interval alone says which there are
 pub from_top : (ids : IdSet) (v : Interval) (q : ℕ) → IsBehind ids v → v.first ≤ q → contains (with_interval ids v) q ≡ leb q v.last
 from_top ids v q behind le = contains-with_interval ids v q ∙ at (contains ids q) refl
   where
     at : (b : Bool) → contains ids q ≡ b → ((leb v.first q && leb q v.last) || b) ≡ leb q v.last
     at true here = let before : q + 1 < v.first = behind.0 q here in absurd (omega arith)
-    at false none = ap (λ (a : Bool). (a && leb q v.last) || false) (le-leb v.first q le) ∙ or_false (leb q v.last)
+    at false none = ap (λ (a : Bool). (a && leb q v.last) || false) (le-leb v.first q le) ∙ or-false (leb q v.last)
 
 -- below it the ids say it
 pub below_top : (ids : IdSet) (v : Interval) (q : ℕ) → q < v.first → contains (with_interval ids v) q ≡ contains ids q
@@ -73,7 +56,7 @@ where_in : (ids : IdSet) (v : Interval) (q : ℕ) → contains (with_interval id
 where_in ids v q here = at (leb v.first q) refl (leb q v.last) refl (sym (contains-with_interval ids v q) ∙ here)
   where
     at : (a : Bool) → leb v.first q ≡ a → (b : Bool) → leb q v.last ≡ b → ((a && b) || contains ids q) ≡ true → ((v.first ≤ q) × (q ≤ v.last)) ⊎ (contains ids q ≡ true)
-    at true ea true eb e = inl (at_most v.first q ea, at_most q v.last eb)
+    at true ea true eb e = inl (leb-true v.first q ea, leb-true q v.last eb)
     at true ea false eb e = inr e
     at false ea b eb e = inr e
 
@@ -148,7 +131,7 @@ pub under_top_behind : (ids new : IdSet) (v : Interval) (id : ℕ) → new ≡ i
 under_top_behind ids new v id is behind lt = (before, behind.1)
   where
     at : (q : ℕ) (b : Bool) → eqb q id ≡ b → (b || contains ids q) ≡ true → q + 1 < v.first
-    at q true e here = let same : q ≡ id = same_number q id e in omega arith
+    at q true e here = let same : q ≡ id = eqb-true q id e in omega arith
     at q false e here = behind.0 q here
 
     before : (q : ℕ) → contains new q ≡ true → q + 1 < v.first
@@ -182,7 +165,7 @@ near_above ids v id behind some lt near =
     let here = above_top ids v id behind (omega arith) (omega arith) in
     let after = above_top ids v (id + 1) behind (omega arith) (omega arith) in
     let before = above_top ids v (id - 1) behind (omega arith) (omega arith) in
-    let none : is_near_in (with_interval ids v) id ≡ false = rw (here, after, before) (and_false (ltb 0 id)) in
+    let none : is_near_in (with_interval ids v) id ≡ false = rw (here, after, before) (and-false (ltb 0 id)) in
     absurd cc
 
 -- ---- what an interval answers
@@ -191,11 +174,11 @@ in_alone : (v : Interval) (q : ℕ) → contains (ids_of v) q ≡ (leb v.first q
 in_alone v q =
     contains-with_interval empty v q
     ∙ ap (λ (b : Bool). (leb v.first q && leb q v.last) || b) (contains-empty nat_cmp q)
-    ∙ or_false (leb v.first q && leb q v.last)
+    ∙ or-false (leb v.first q && leb q v.last)
 
 outside : (a b q : ℕ) → (q < a) ⊎ (b < q) → (leb a q && leb q b) ≡ false
 outside a b q (inl lt) = ap (λ (x : Bool). x && leb q b) (lt-leb a q lt)
-outside a b q (inr lt) = ap (λ (x : Bool). leb a q && x) (lt-leb q b lt) ∙ and_false (leb a q)
+outside a b q (inr lt) = ap (λ (x : Bool). leb a q && x) (lt-leb q b lt) ∙ and-false (leb a q)
 
 inside : (a b q : ℕ) → a ≤ q → q ≤ b → (leb a q && leb q b) ≡ true
 inside a b q low high = rw (le-leb a q low, le-leb q b high) refl
@@ -298,7 +281,7 @@ pub count_all : (ids : IdSet) (v : Interval) (count n : ℕ) → IsBehind ids v 
 count_all ids v count n behind counts below = elim (cases_lt v.last v.first) [
   | inl none ↦
       let same : members_below n (with_interval ids v) ≡ members_below n ids = members-same n (with_interval ids v) ids (λ q lt. contains-with_interval ids v q ∙ ap (λ (b : Bool). b || contains ids q) (outside v.first v.last q (elim (cases_lt q v.first) [ inl less ↦ inl less | inr ge ↦ inr (omega arith) ]))) in
-      let is = counts n (λ q here. below q (contains-with_interval ids v q ∙ ap (λ (b : Bool). (leb v.first q && leb q v.last) || b) here ∙ or_true (leb v.first q && leb q v.last))) in
+      let is = counts n (λ q here. below q (contains-with_interval ids v q ∙ ap (λ (b : Bool). (leb v.first q && leb q v.last) || b) here ∙ or-true (leb v.first q && leb q v.last))) in
       let zero_wide : v.last + 1 - v.first ≡ 0 = omega arith in
       ap (λ (k : ℕ). count + k) zero_wide ∙ omega (arith, is, ap length same)
   | inr some ↦
@@ -327,7 +310,7 @@ unfolding is_in
 apart_push lo [] v apart before low some = (low, some, tt)
 apart_push lo (w ∷ vs) v apart before low some =
     let end : w.last + 1 < v.first = before w.last (ap (λ (b : Bool). b || is_in vs w.last) (inside w.first w.last w.last apart.1 (omega arith))) in
-    (apart.0, apart.1, apart_push (w.last + 2) vs v apart.2 (λ q here. before q (ap (λ (b : Bool). (leb w.first q && leb q w.last) || b) here ∙ or_true (leb w.first q && leb q w.last))) (omega arith) some)
+    (apart.0, apart.1, apart_push (w.last + 2) vs v apart.2 (λ q here. before q (ap (λ (b : Bool). (leb w.first q && leb q w.last) || b) here ∙ or-true (leb w.first q && leb q w.last))) (omega arith) some)
 
 pub apart_front : (lo : ℕ) (vs : List Interval) (v : Interval) → AreApart lo (vs ++ v ∷ []) → AreApart lo vs
 apart_front lo [] v apart = tt
@@ -347,7 +330,7 @@ before_last lo (w ∷ vs) v q apart here =
     at (leb w.first q) (leb q w.last) refl refl here later.0 (before_last (w.last + 2) vs v q apart.2)
   where
     at : (a b : Bool) → leb w.first q ≡ a → leb q w.last ≡ b → ((a && b) || is_in vs q) ≡ true → w.last + 2 ≤ v.first → (is_in vs q ≡ true → q + 1 < v.first) → q + 1 < v.first
-    at true true ea eb e le rest = let high : q ≤ w.last = at_most q w.last eb in omega arith
+    at true true ea eb e le rest = let high : q ≤ w.last = leb-true q w.last eb in omega arith
     at true false ea eb e le rest = rest e
     at false b ea eb e le rest = rest e
 

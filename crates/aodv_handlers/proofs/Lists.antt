@@ -14,14 +14,7 @@ use Rattle.std.proofs.Math.ListN.{drop}
 use Rattle.std.specs.FinMap.Entries.{where_key, find-where_key, is_sorted-where_key}
 use Rattle.mesh_base.specs.Members.{NodeIds}
 use Rattle.aodv_model.specs.Handlers.{is_empty}
-
-pub from_index : {A : Type 0} (xs : List A) (k : ℕ) (x : A) → slice_get xs k ≡ Some x → drop k xs ≡ x ∷ drop (suc k) xs
-from_index [] k x is = absurd (none-some x is)
-from_index (y ∷ xs) zero x is = ap (λ (y : _). y ∷ xs) (same y x is)
-  where
-    same : {A : Type 0} (y x : A) → Some y ≡ Some x → y ≡ x
-    same y x is = cc
-from_index (y ∷ xs) (suc k) x is = from_index xs k x is
+use Rattle.aodv_table.proofs.Lookups.{same_nodes}
 
 pub from_end : {A : Type 0} (xs : List A) (k : ℕ) → length xs ≤ k → drop k xs ≡ []
 from_end [] zero h = refl
@@ -31,22 +24,12 @@ from_end (x ∷ xs) (suc k) h = from_end xs k (omega arith)
 
 -- ---- sets
 
-pub same_nodes : (s t : NodeIds) → ((q : ℕ) → sets.contains s q ≡ sets.contains t q) → s ≡ t
-same_nodes s t = sets.same_set nat_cmp_total nat_cmp-IsAntisymmetric s t
-
-or-false : (b : Bool) → (b || false) ≡ b
-or-false true = refl
-or-false false = refl
-
 or_assoc : (a b c : Bool) → ((a || b) || c) ≡ (a || (b || c))
 or_assoc true b c = refl
 or_assoc false b c = refl
 
 pub empty_union : (s : NodeIds) → sets.union sets.empty s ≡ s
 empty_union s = same_nodes _ s (λ q. sets.contains-union nat_cmp_total sets.empty s q ∙ ap (λ (b : Bool). b || sets.contains s q) (sets.contains-empty nat_cmp q))
-
-pub union_empty : (s : NodeIds) → sets.union s sets.empty ≡ s
-union_empty s = same_nodes _ s (λ q. sets.contains-union nat_cmp_total s sets.empty q ∙ ap (λ (b : Bool). sets.contains s q || b) (sets.contains-empty nat_cmp q) ∙ or-false (sets.contains s q))
 
 pub union_assoc : (r s t : NodeIds) → sets.union (sets.union r s) t ≡ sets.union r (sets.union s t)
 union_assoc r s t = same_nodes _ _ (λ q.

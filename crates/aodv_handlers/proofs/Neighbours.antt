@@ -1,11 +1,10 @@
 -- The update by a neighbour that was heard, where it changes nothing.
-use Rattle.std.proofs.Common.{◌≡◌, ℕ, Bool, true, false, ◌||◌, nat_cmp, Option, Some, None, refl, ap, sym, ◌∙◌, eq-eqb, inl, inr, arith}
+use Rattle.std.proofs.Common.{◌≡◌, ℕ, Bool, true, Option, Some, None, refl, ap, sym, ◌∙◌, eq-eqb, inl, inr, arith}
 use Rattle.std.proofs.lemmas.Bool.{ne_eqb, cases_eq}
 use Rattle.std.proofs.lemmas.Bool.Decides.{nat_tests}
 use Rattle.std.proofs.lemmas.Cmp.{nat_cmp_total}
 use Rattle.std.specs.FinMap as maps
 use Rattle.std.specs.FinMap.{nat_cmp-IsAntisymmetric}
-use Rattle.std.specs.FinSet as sets
 use Rattle.mesh_base.specs.Members.{NodeIds}
 use Rattle.aodv_model.specs.declared.entry.Entry.{Entry}
 use Rattle.aodv_model.specs.declared.entry.Known.{Known}
@@ -15,15 +14,8 @@ use Rattle.aodv_model.specs.declared.entry.Flag.TheVariants.{Val, Inv}
 use Rattle.aodv_model.specs.Tables.{Table, entry_after, merge, update}
 use Rattle.aodv_model.specs.Handlers.{neighbour_entry}
 use Rattle.aodv_model.proofs.Lookups.{get-update}
+use Rattle.aodv_model.proofs.Stale.{with_none}
 use Rattle.aodv_table.specs.Calls.{is_neighbour_entry, is_neighbour_in}
-
--- the union with no node
-with_none : (s : NodeIds) → sets.union s sets.empty ≡ s
-with_none s = sets.same_set nat_cmp_total nat_cmp-IsAntisymmetric (sets.union s sets.empty) s (λ q. sets.contains-union nat_cmp_total s sets.empty q ∙ ap (λ b. sets.contains s q || b) (sets.contains-empty nat_cmp q) ∙ or_false (sets.contains s q))
-  where
-    or_false : (b : Bool) → (b || false) ≡ b
-    or_false true = refl
-    or_false false = refl
 
 -- the entry of a neighbour, whatever its number and its precursors
 abbrev known_by : Entry → ℕ → Entry

@@ -1,5 +1,5 @@
 -- Route errors that name no route by their sender: nothing is gone.
-use Rattle.std.proofs.Common.{◌≡◌, ℕ, zero, suc, ◌<◌, ◌≤◌, Bool, true, false, cond, ◌&&◌, ◌||◌, Option, Some, None, List, [], ◌∷◌, length, map, refl, sym, ap, ◌∙◌, eq-eqb, arith}
+use Rattle.std.proofs.Common.{◌≡◌, ℕ, suc, ◌<◌, ◌≤◌, Bool, true, false, cond, ◌&&◌, ◌||◌, Option, Some, None, List, [], ◌∷◌, length, map, refl, sym, ap, ◌∙◌, eq-eqb, arith}
 use Rattle.std.specs.Prelude.{is_some, slice_get, option_map, unwrap_or, nat_lt, if◌then◌else◌, ◌==◌}
 use Rattle.std.specs.Ordering.{nat_cmp, eq_by_cmp}
 use Rattle.std.specs.Cmp.{unsigned_tied}
@@ -7,17 +7,17 @@ use Rattle.std.specs.FinMap as maps
 use Rattle.std.specs.FinMap.{find, nat_cmp-IsAntisymmetric}
 use Rattle.std.proofs.lemmas.Cmp.{nat_cmp_total}
 use Rattle.std.proofs.lemmas.Bool.{eqb-true}
-use Rattle.std.proofs.lemmas.Option.{none-some, same_Some}
+use Rattle.std.proofs.lemmas.Option.{none-some, same_Some, slice_get_within}
 use Rattle.mesh_base.specs.declared.addr.Addr.{Addr}
 use Rattle.mesh_base.specs.declared.events.Variant.{Variant}
 use Rattle.mesh_base.specs.Meshes.{Nodes}
-use Rattle.aodv_model.specs.declared.entry.Entry.{Entry}
 use Rattle.aodv_model.specs.Tables.{Table, Dests, dests_of, goes_by, sqn, accepted_unreachable, invalidate, invalidated}
 use Rattle.aodv_model.specs.Cores.{Core, Store, Waiting, Rerr, set}
 use Rattle.aodv_model.specs.Handlers.{Nothing, Many, All, casting, plain, is_empty, is_error, all_precs, precs_of, with_precs, error_cast, retract}
 use Rattle.aodv_model.proofs.Lookups.{contains-dests_of, get-accepted, get-invalidate}
 use Rattle.aodv_model.proofs.Stores.{need_if, get-set}
 use Rattle.aodv_meaning.specs.Meaning.{index, pair_by_index, dests_in}
+use Rattle.aodv_table.proofs.Changes.{untold}
 use Rattle.aodv_handlers.proofs.Lists.{empty_is}
 use Rattle.aodv_handlers.proofs.Unicasts.{no_entries}
 
@@ -42,11 +42,6 @@ found_refused mesh rt from (p ∷ ps) all q n is = case (eq_by_cmp nat_cmp q (in
         ap (λ (d : ℕ). accepts rt from d n) same ∙ ap (accepts rt from (index mesh p.0)) (sym (same_Some p.1 n is)) ∙ all 0 p refl
     case false at is later = later is
 
-there_below : {A : Type 0} (xs : List A) (j : ℕ) (x : A) → slice_get xs j ≡ Some x → j < length xs
-there_below [] j x is = absurd (none-some x is)
-there_below (y ∷ xs) zero x is = omega arith
-there_below (y ∷ xs) (suc j) x is = let lt = there_below xs j x is in omega arith
-
 accepted_at : (rt : Table) (from q : ℕ) (o : Option ℕ) → ((n : ℕ) → o ≡ Some n → accepts rt from q n ≡ false) → (if goes_by (maps.get rt q) from && nat_lt (sqn rt q) (unwrap_or o 0) then o else None) ≡ None
 accepted_at rt from q None refused = either (goes_by (maps.get rt q) from && nat_lt (sqn rt q) 0)
   where
@@ -60,7 +55,7 @@ accepted_at rt from q (Some n) refused = rw (refused n refl) refl
 
 pub none_accepted : (mesh : Nodes) (rt : Table) (from k : ℕ) (pairs : List (Addr × ℕ)) → AreRefused mesh rt from pairs k → length pairs ≤ k → accepted_unreachable rt from (dests_in mesh pairs) ≡ maps.empty
 none_accepted mesh rt from k pairs refused end =
-    let all : (j : ℕ) (p : Addr × ℕ) → slice_get pairs j ≡ Some p → accepts rt from (index mesh p.0) p.1 ≡ false = λ j p is. let lt = there_below pairs j p is in refused j p (omega arith) is in
+    let all : (j : ℕ) (p : Addr × ℕ) → slice_get pairs j ≡ Some p → accepts rt from (index mesh p.0) p.1 ≡ false = λ j p is. let lt = slice_get_within pairs j p is in refused j p (omega arith) is in
     maps.same_map nat_cmp_total nat_cmp-IsAntisymmetric _ maps.empty (λ q.
     get-accepted rt from (dests_in mesh pairs) q
     ∙ accepted_at rt from q (maps.get (dests_in mesh pairs) q) (λ n is. found_refused mesh rt from pairs all q n (sym (maps.get-from_entries nat_cmp_total (map (pair_by_index mesh) pairs) q) ∙ is))
@@ -68,12 +63,8 @@ none_accepted mesh rt from k pairs refused end =
 
 -- ---- no destination is gone
 
-entry_kept : (o : Option Entry) → option_map (λ e. invalidated e None) o ≡ o
-entry_kept None = refl
-entry_kept (Some e) = refl
-
 table_kept : (rt : Table) → invalidate rt maps.empty ≡ rt
-table_kept rt = maps.same_map nat_cmp_total nat_cmp-IsAntisymmetric _ rt (λ q. get-invalidate rt maps.empty q ∙ ap (λ (n : Option ℕ). option_map (λ e. invalidated e n) (maps.get rt q)) (maps.get-empty nat_cmp q) ∙ entry_kept (maps.get rt q))
+table_kept rt = maps.same_map nat_cmp_total nat_cmp-IsAntisymmetric _ rt (λ q. get-invalidate rt maps.empty q ∙ ap (λ (n : Option ℕ). option_map (λ e. invalidated e n) (maps.get rt q)) (maps.get-empty nat_cmp q) ∙ untold (maps.get rt q))
 
 no_keys : maps.keys (maps.empty {X = ℕ} {R = nat_cmp}) ≡ []
 no_keys = ap (map (λ e. e.0)) no_entries

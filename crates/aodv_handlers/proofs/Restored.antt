@@ -1,6 +1,6 @@
 -- Rows of a table that are put back.
 use Rattle.std.proofs.Common.{◌≡◌, ℕ, Bool, cond, Option, Some, None, refl, ap, ◌∙◌, eq-eqb, inl, inr}
-use Rattle.std.specs.Prelude.{option_map, if◌then◌else◌, ◌==◌}
+use Rattle.std.specs.Prelude.{if◌then◌else◌, ◌==◌}
 use Rattle.std.proofs.lemmas.Bool.{ne_eqb, cases_eq}
 use Rattle.std.proofs.lemmas.Cmp.{nat_cmp_total}
 use Rattle.std.specs.Cmp.{unsigned_tied}
@@ -8,9 +8,10 @@ use Rattle.std.specs.FinMap as maps
 use Rattle.std.specs.FinMap.{nat_cmp-IsAntisymmetric}
 use Rattle.mesh_base.specs.Members.{NodeIds}
 use Rattle.aodv_model.specs.declared.entry.Entry.{Entry}
-use Rattle.aodv_model.specs.Tables.{Table, update, add_pre, add_pre_at}
+use Rattle.aodv_model.specs.Tables.{Table, update, add_pre}
 use Rattle.aodv_model.proofs.Lookups.{get-update, get-add_pre}
 use Rattle.aodv_table.specs.Calls.{with_entry}
+use Rattle.aodv_table.proofs.Changes.{unjoined}
 
 pub get-with_entry : (rt : Table) (d : ℕ) (o : Option Entry) (q : ℕ) → maps.get (with_entry rt d o) q ≡ (if q == d then o else maps.get rt q)
 get-with_entry rt d None q = maps.get-remove nat_cmp_total rt d q ∙ ap (λ (b : Bool). cond b None (maps.get rt q)) (unsigned_tied q d)
@@ -28,12 +29,8 @@ two_back rt rt' a b same = maps.same_map nat_cmp_total nat_cmp-IsAntisymmetric _
       ])
     ])
 
-joined_other : (d : ℕ) (nodes : NodeIds) (q : ℕ) (o : Option Entry) → (q ≡ d → ⊥) → option_map (add_pre_at d nodes q) o ≡ o
-joined_other d nodes q None other = refl
-joined_other d nodes q (Some e) other = rw (ne_eqb q d other) refl
-
 add_pre_other : (rt : Table) (d : ℕ) (nodes : NodeIds) (q : ℕ) → (q ≡ d → ⊥) → maps.get (add_pre rt d nodes) q ≡ maps.get rt q
-add_pre_other rt d nodes q other = get-add_pre rt d nodes q ∙ joined_other d nodes q (maps.get rt q) other
+add_pre_other rt d nodes q other = get-add_pre rt d nodes q ∙ unjoined d nodes q (maps.get rt q) other
 
 -- the entries of a and b, put back after each got precursors
 pub joins_back : (rt rt' : Table) (a b : ℕ) (s t : NodeIds) (kept_a kept_b : Option Entry) → rt' ≡ add_pre (add_pre rt a s) b t → kept_a ≡ maps.get rt a → kept_b ≡ maps.get rt b → with_entry (with_entry rt' b kept_b) a kept_a ≡ rt

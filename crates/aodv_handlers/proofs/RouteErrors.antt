@@ -10,22 +10,25 @@ use Rattle.std.specs.FinMap.Entries.{where_key}
 use Rattle.std.specs.FinSet as sets
 use Rattle.std.proofs.lemmas.Bool.{ne_eqb}
 use Rattle.std.proofs.Math.ListN.{drop}
+use Rattle.std.proofs.lemmas.List.{append-nil}
 use Rattle.mesh_base.specs.declared.addr.Addr.{Addr}
 use Rattle.mesh_base.specs.declared.events.Variant.{Variant}
 use Rattle.mesh_base.specs.declared.events.Variant.TheVariants.{Base, Number, Reply, Error}
 use Rattle.mesh_base.specs.Members.{NodeIds}
 use Rattle.mesh_base.specs.Meshes.{Nodes, IsMesh}
+use Rattle.mesh_base.proofs.Lemmas.Lists.{drop_from}
 use Rattle.aodv_model.specs.Tables.{Table, Dests, dests_of, precs}
 use Rattle.aodv_model.specs.Cores.{Rerr}
 use Rattle.aodv_model.specs.Handlers.{Nothing, All, is_empty, is_error, all_precs, precs_of, with_precs, error_cast}
 use Rattle.aodv_model.specs.Soundness.{AreDestsBelow}
 use Rattle.aodv_model.proofs.Lookups.{get-kept}
 use Rattle.aodv_model.proofs.TablesInMesh.{kept_of}
+use Rattle.aodv_model.proofs.Stale.{with_none}
 use Rattle.aodv_wire.specs.RouteError.{AreDestinations}
 use Rattle.aodv_meaning.specs.Sent.{pair_by_address, pairs_of}
 use Rattle.aodv_meaning.proofs.Writings.{destinations}
 use Rattle.aodv_handlers.specs.Parts.{is_named, named_dests}
-use Rattle.aodv_handlers.proofs.Lists.{from_index, from_end, empty_union, union_empty, union_assoc, empty_is, is_empty_same, entries_where, any_there}
+use Rattle.aodv_handlers.proofs.Lists.{from_end, empty_union, union_assoc, empty_is, is_empty_same, entries_where, any_there}
 use Rattle.aodv_meaning.proofs.Means.{some_of}
 
 -- the destination at an index is in the mesh
@@ -52,7 +55,7 @@ unfolding precs_from
 joined_more rt dests k all all' s p has is s_is next =
     let up : suc k ≡ k + 1 = omega arith in
     let step : precs_from rt dests k ≡ sets.union s (precs_from rt dests (k + 1)) =
-    ap (λ es. all_precs rt (map (λ e. e.0) es)) (from_index (maps.entries dests) k p is)
+    ap (λ es. all_precs rt (map (λ e. e.0) es)) (drop_from (maps.entries dests) k p is)
     ∙ (λ i. sets.union (sym s_is i) (precs_from rt dests (up i))) in
     record {
       whole = ap (λ t. sets.union t (precs_from rt dests (k + 1))) next
@@ -64,7 +67,7 @@ joined_more rt dests k all all' s p has is s_is next =
 pub joined_all : (rt : Table) (dests : Dests) (k : ℕ) (all : NodeIds) → HasJoined rt dests k all → length (maps.entries dests) ≤ k → all ≡ precs_of rt dests
 unfolding precs_from
 joined_all rt dests k all has end =
-    sym (union_empty all)
+    sym (with_none all)
     ∙ ap (λ es. sets.union all (all_precs rt (map (λ e. e.0) es))) (sym (from_end (maps.entries dests) k end))
     ∙ has.whole
 
@@ -90,7 +93,7 @@ found_more dests k found found' p has is next =
           ap (λ (b : Bool). b || named q (drop (k + 1) (maps.entries dests))) (ap (λ (s : NodeIds). sets.contains s q) next ∙ sets.contains-insert nat_cmp_total found p.0 q)
           ∙ moved (eq_by_cmp nat_cmp q p.0) (sets.contains found q) (named q (drop (k + 1) (maps.entries dests)))
           ∙ ap (λ (n : ℕ). sets.contains found q || (eq_by_cmp nat_cmp q p.0 || named q (drop n (maps.entries dests)))) (sym up)
-          ∙ ap (λ (es : List (ℕ × ℕ)). sets.contains found q || named q es) (sym (from_index (maps.entries dests) k p is))
+          ∙ ap (λ (es : List (ℕ × ℕ)). sets.contains found q || named q es) (sym (drop_from (maps.entries dests) k p is))
           ∙ has.whole q;
     }
   where
@@ -130,7 +133,7 @@ told_first mesh v rt p es false is = rw is refl
 told_step : (mesh : Nodes) (v : Variant) (rt : Table) (dests : Dests) (k : ℕ) (p : ℕ × ℕ) (b : Bool) → slice_get (maps.entries dests) k ≡ Some p → is_named v rt p.0 ≡ b → told_of mesh v rt (drop k (maps.entries dests)) ≡ cond b (pair_by_address mesh p ∷ told_of mesh v rt (drop (k + 1) (maps.entries dests))) (told_of mesh v rt (drop (k + 1) (maps.entries dests)))
 told_step mesh v rt dests k p b is has =
     let up : suc k ≡ k + 1 = omega arith in
-    ap (told_of mesh v rt) (from_index (maps.entries dests) k p is)
+    ap (told_of mesh v rt) (drop_from (maps.entries dests) k p is)
     ∙ told_first mesh v rt p (drop (suc k) (maps.entries dests)) b has
     ∙ ap (λ n. cond b (pair_by_address mesh p ∷ told_of mesh v rt (drop n (maps.entries dests))) (told_of mesh v rt (drop n (maps.entries dests)))) up
 
@@ -151,10 +154,6 @@ pub told_same : (mesh : Nodes) (v : Variant) (rt : Table) (dests : Dests) (k : �
 told_same mesh v rt dests k pairs p has is none =
     let few : length pairs ≤ k = has.few in
     record { whole = ap (λ ps. pairs ++ ps) (sym (told_step mesh v rt dests k p false is none)) ∙ has.whole; few = omega arith }
-
-append-nil : {A : Type 0} (xs : List A) → xs ++ [] ≡ xs
-append-nil [] = refl
-append-nil (x ∷ xs) = ap (λ ys. x ∷ ys) (append-nil xs)
 
 all_kept : (es : List (ℕ × ℕ)) → where_key nat_cmp (λ _. true) es ≡ es
 all_kept [] = refl

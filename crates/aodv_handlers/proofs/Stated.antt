@@ -11,13 +11,14 @@ use Rattle.std.proofs.lemmas.Option.{none-some}
 use Rattle.std.proofs.Math.ListN.{drop}
 use Rattle.mesh_base.specs.declared.addr.Addr.{Addr}
 use Rattle.mesh_base.specs.Meshes.{Nodes, index_of}
+use Rattle.mesh_base.proofs.Lemmas.Lists.{drop_from}
 use Rattle.aodv_model.specs.Tables.{Table, Dests, goes_by, sqn, accepted_unreachable}
 use Rattle.aodv_model.specs.Soundness.{AreDestsBelow}
 use Rattle.aodv_model.proofs.Lookups.{get-accepted}
 use Rattle.aodv_model.proofs.TablesInMesh.{accepted_below}
 use Rattle.aodv_meaning.specs.Meaning.{index, pair_by_index, dests_in, strange_pair}
-use Rattle.aodv_meaning.proofs.Means.{below, first_in}
-use Rattle.aodv_handlers.proofs.Lists.{from_index, from_end}
+use Rattle.aodv_meaning.proofs.Means.{below, first_in, pairs_below}
+use Rattle.aodv_handlers.proofs.Lists.{from_end}
 
 -- ---- who is in the mesh
 
@@ -60,7 +61,7 @@ stated_more mesh pairs k d p numbers numbers' has is d_is size new =
           let later = stated_from mesh pairs (k + 1) q in
           let tied : eq_by_cmp nat_cmp q (index mesh p.0) ≡ (q == d) = unsigned_tied q (index mesh p.0) ∙ ap (λ (x : ℕ). q == x) (sym d_is) in
           let step : stated_from mesh pairs k q ≡ cond (q == d) (Some p.1) later =
-          ap (λ ps. find nat_cmp q (map (pair_by_index mesh) ps)) (from_index pairs k p is)
+          ap (λ ps. find nat_cmp q (map (pair_by_index mesh) ps)) (drop_from pairs k p is)
           ∙ (λ i. cond (tied i) (Some p.1) (stated_from mesh pairs (up i) q)) in
           case q (q == d) refl (step ∙ refl);
     }
@@ -91,17 +92,6 @@ stated_all mesh pairs k numbers d has end =
     ∙ sym (maps.get-from_entries nat_cmp_total (map (pair_by_index mesh) pairs) d)
 
 -- ---- the pairs accepted
-
-found_below : (b : Bool) (i d v n size : ℕ) (rest : Option ℕ) → (b ≡ true → d ≡ i) → i < size → (rest ≡ Some n → d < size) → cond b (Some v) rest ≡ Some n → d < size
-found_below true i d v n size rest same h later e = let is = same refl in omega arith
-found_below false i d v n size rest same h later e = later e
-
-pairs_below : (mesh : Nodes) (ps : List (Addr × ℕ)) → strange_pair mesh ps ≡ None → (d n : ℕ) → find nat_cmp d (map (pair_by_index mesh) ps) ≡ Some n → d < length mesh
-pairs_below mesh [] e d n f = absurd (none-some n f)
-pairs_below mesh (p ∷ ps) e d n f =
-    let one = first_in mesh p.0 (strange_pair mesh ps) e in
-    found_below (eq_by_cmp nat_cmp d (index mesh p.0)) (index mesh p.0) d p.1 n (length mesh) (find nat_cmp d (map (pair_by_index mesh) ps))
-    (λ t. eqb-true d (index mesh p.0) (sym (unsigned_tied d (index mesh p.0)) ∙ t)) (below mesh p.0.0 one.0) (pairs_below mesh ps one.1 d n) f
 
 pub stated_below : (mesh : Nodes) (ps : List (Addr × ℕ)) → strange_pair mesh ps ≡ None → AreDestsBelow (length mesh) (dests_in mesh ps)
 stated_below mesh ps e d n g = pairs_below mesh ps e d n (sym (maps.get-from_entries nat_cmp_total (map (pair_by_index mesh) ps) d) ∙ g)

@@ -1,5 +1,6 @@
 -- Links that break, and unicasts.
-use Rattle.std.proofs.Common.{◌≡◌, ℕ, Bool, true, false, Some, None, List, [], ◌∷◌, length, refl, sym, ap, subst, ◌∙◌, arith}
+use Rattle.std.proofs.Common.{◌≡◌, ℕ, Bool, true, false, Some, None, List, [], refl, sym, ap, subst, ◌∙◌}
+use Rattle.std.proofs.lemmas.List.{nil_from_length}
 use Rattle.std.specs.Prelude.{if◌then◌else◌, ◌==◌}
 use Rattle.std.specs.FinMap as maps
 use Rattle.std.specs.FinSet as sets
@@ -25,12 +26,8 @@ use Rattle.aodv_table.specs.Calls.{is_past}
 use Rattle.aodv_meaning.specs.Effects.{cast_of}
 use Rattle.aodv_handlers.specs.Made.{only_cast, IsMade, number_full}
 
-no_length : {A : Type 0} (xs : List A) → length xs ≡ 0 → xs ≡ []
-no_length [] e = refl
-no_length (x ∷ xs) e = absurd (omega arith)
-
 pub no_entries : maps.entries (maps.empty {X = ℕ} {R = nat_cmp}) ≡ []
-no_entries = no_length _ (sym (maps.len-entries (maps.empty {X = ℕ} {R = nat_cmp})) ∙ maps.len-empty nat_cmp ℕ)
+no_entries = nil_from_length _ (sym (maps.len-entries (maps.empty {X = ℕ} {R = nat_cmp})) ∙ maps.len-empty nat_cmp ℕ)
 
 -- the link to y can break
 past_free : (rt : Table) (y : ℕ) → is_past (unreachable_by rt y) ≡ false → number_full rt (Some y) ≡ None

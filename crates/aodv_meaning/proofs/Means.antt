@@ -7,14 +7,13 @@ use Rattle.std.specs.Cmp.{unsigned_tied}
 use Rattle.std.specs.FinMap as maps
 use Rattle.std.specs.FinMap.{nat_cmp-IsAntisymmetric, find}
 use Rattle.std.proofs.lemmas.Cmp.{nat_cmp_total}
-use Rattle.std.proofs.lemmas.Bool.{ne_eqb, eqb-true, cases_lt, lt-ltb}
+use Rattle.std.proofs.lemmas.Bool.{eqb-true, cases_lt, ltb-false}
 use Rattle.std.proofs.lemmas.Bool.Decides.{nat_tests}
 use Rattle.std.proofs.lemmas.Option.{none-some}
 use Rattle.std.proofs.lemmas.List.Quantifiers.{position-Some}
-use Rattle.std.proofs.lemmas.List.Sums.{position_or_len_is}
-use Rattle.std.specs.List.{position_or_len}
 use Rattle.mesh_base.specs.declared.addr.Addr.{Addr}
 use Rattle.mesh_base.specs.Meshes.{Nodes, addr_at, index_of, index_in, IsMesh}
+use Rattle.mesh_base.proofs.WrittenForms.{index_of-at}
 use Rattle.aodv_model.specs.declared.entry.Known.{Known}
 use Rattle.aodv_model.specs.declared.entry.Known.TheVariants.{Kno, Unk}
 use Rattle.aodv_model.specs.Quality.{is_kno}
@@ -41,18 +40,9 @@ apart mesh i k is hi hk same = elim (cases_lt k i) [
   | inr ge ↦ elim (cases_lt i k) [ inl lt ↦ let r = is.rising i k lt hk in absurd (omega arith) | inr le ↦ omega arith ]
 ]
 
-pub index_of_at : (mesh : Nodes) (i : ℕ) → IsMesh mesh → i < length mesh → index_of mesh (addr_at mesh i) ≡ Some i
-unfolding index_of
-index_of_at mesh i is h =
-    let index : position_or_len (λ (p : ℕ × ℕ). eqb p.0 (addr_at mesh i)) mesh ≡ i =
-    position_or_len_is (λ (p : ℕ × ℕ). eqb p.0 (addr_at mesh i)) mesh i (0, 0) (omega arith)
-    (λ k lt. ne_eqb (addr_at mesh k) (addr_at mesh i) (λ same. let r = is.rising k i lt h in omega arith))
-    (λ _. eq-eqb (addr_at mesh i) (addr_at mesh i) refl) in
-    rw (index, lt-ltb i (length mesh) h) refl
-
 pub index_at : (mesh : Nodes) (i : ℕ) → IsMesh mesh → i < length mesh → index_in mesh (addr_at mesh i) ≡ i
 unfolding index_in
-index_at mesh i is h = rw (index_of_at mesh i is h) refl
+index_at mesh i is h = rw (index_of-at mesh i is h) refl
 
 -- an address that is there is that of its index
 pub index_there : (mesh : Nodes) (a i : ℕ) → index_of mesh a ≡ Some i → (i < length mesh) × (index_in mesh a ≡ i) × (addr_at mesh i ≡ a)
@@ -69,7 +59,7 @@ pub below : (mesh : Nodes) (a : ℕ) → is_some (index_of mesh a) ≡ true → 
 below mesh a t = some_below mesh a (index_of mesh a) refl t
 
 pub is_there : (mesh : Nodes) (i : ℕ) → IsMesh mesh → i < length mesh → is_some (index_of mesh (addr_at mesh i)) ≡ true
-is_there mesh i is h = rw (index_of_at mesh i is h) refl
+is_there mesh i is h = rw (index_of-at mesh i is h) refl
 
 pub status_back : (k : Known) → status_of (is_kno k) ≡ k
 status_back Kno = refl
@@ -153,7 +143,7 @@ pub found_below : (b : Bool) (i n d v : ℕ) (size : ℕ) (rest : Option ℕ) �
 found_below true i n d v size rest same h later e = let is = same refl in omega arith
 found_below false i n d v size rest same h later e = later e
 
-pairs_below : (mesh : Nodes) (ps : List (Addr × ℕ)) → strange_pair mesh ps ≡ None → (d n : ℕ) → find nat_cmp d (map (pair_by_index mesh) ps) ≡ Some n → d < length mesh
+pub pairs_below : (mesh : Nodes) (ps : List (Addr × ℕ)) → strange_pair mesh ps ≡ None → (d n : ℕ) → find nat_cmp d (map (pair_by_index mesh) ps) ≡ Some n → d < length mesh
 pairs_below mesh [] e d n f = absurd (none-some n f)
 pairs_below mesh (p ∷ ps) e d n f =
     let one = first_in mesh p.0 (strange_pair mesh ps) e in
@@ -217,15 +207,12 @@ reply_number b h =
     let five = both (eqb (rrep.value_in b rrep.DestinationNumber) 0) ZeroNumber [] four.1 in
     not_zero (rrep.value_in b rrep.DestinationNumber) five.0
 
-at_least : (m n : ℕ) → ltb m n ≡ false → n ≤ m
-at_least m n h = grind (arith, nat_tests)
-
 body_is_datum : (b : List ℕ) → packet.refusal b ≡ None → IsDatum (packet.datum b).body
 body_is_datum b h =
     let one = both (ltb (length b) 13) WrongLength (refuse_if (ltb 524 (length b)) WrongLength ∷ refuse_if (not (eqb (packet.value_in b packet.Zero) 0)) BadData ∷ []) h in
     let two = both (ltb 524 (length b)) WrongLength (refuse_if (not (eqb (packet.value_in b packet.Zero) 0)) BadData ∷ []) one.1 in
-    let low = at_least (length b) 13 one.0 in
-    let high = at_least 524 (length b) two.0 in
+    let low = ltb-false (length b) 13 one.0 in
+    let high = ltb-false 524 (length b) two.0 in
     let size = length-drop 12 b in
     (omega arith, omega arith)
 

@@ -12,6 +12,7 @@ use Rattle.std.proofs.lemmas.Option.{none-some, same_Some}
 use Rattle.std.specs.FinMap as maps
 use Rattle.std.specs.FinMap.{FinMap}
 use Rattle.std.specs.FinMap.Entries.{find, is_sorted, below_all}
+use Rattle.mesh_base.proofs.Lemmas.Bools.{left_of_both, right_of_both}
 use Rattle.aodv_model.specs.declared.entry.Entry.{Entry}
 use Rattle.aodv_model.specs.Quality.{inc}
 use Rattle.aodv_model.specs.Tables.{Table, goes_by, number_in, unreachable_by}
@@ -20,20 +21,12 @@ use Rattle.aodv_model.specs.Fullness.{greatest, has_greatest_by, is_number_full}
 use Rattle.aodv_model.proofs.Lookups.{get-unreachable_by}
 use Rattle.aodv_model.proofs.Readings.{join_answer_alike, join_reply_alike}
 
-first : (a b : Bool) → T (a && b) → T a
-first true b p = tt
-first false b p = p
-
-second : (a b : Bool) → T (a && b) → T b
-second true b p = p
-second false b p = absurd p
-
 -- ---- the values of a map
 
 -- no key of a list above x is x
 not_above : {V : Type 0} (x : ℕ) (es : List (ℕ × V)) → T (below_all nat_cmp x es) → find nat_cmp x es ≡ None
 not_above x [] h = refl
-not_above {V} x (e ∷ es) h = at (nat_cmp x e.0) (first _ _ h) (not_above x es (second _ _ h))
+not_above {V} x (e ∷ es) h = at (nat_cmp x e.0) (left_of_both _ _ h) (not_above x es (right_of_both _ _ h))
   where
     nothing : Option V
     nothing = None
@@ -46,12 +39,12 @@ not_above {V} x (e ∷ es) h = at (nat_cmp x e.0) (first _ _ h) (not_above x es 
 -- a value of this kind that stands in a sorted list is found at a key
 found : {V : Type 0} (p : V → Bool) (es : List (ℕ × V)) → T (is_sorted nat_cmp es) → list_any p (map (λ e. e.1) es) ≡ true → (d : ℕ) × (v : V) × (find nat_cmp d es ≡ Some v) × (p v ≡ true)
 found p [] h is = cc
-found {V} p (e ∷ es) h is = at (p e.1) refl is (found p es (second _ _ h))
+found {V} p (e ∷ es) h is = at (p e.1) refl is (found p es (right_of_both _ _ h))
   where
     later : (d : ℕ) (v : V) (b : Bool) → eq_by_cmp nat_cmp d e.0 ≡ b → find nat_cmp d es ≡ Some v → cond b (Some e.1) (find nat_cmp d es) ≡ Some v
     later d v true t there =
         let same : d ≡ e.0 = eqb-true d e.0 (sym (unsigned_tied d e.0) ∙ t) in
-        absurd (none-some v (sym (not_above e.0 es (first _ _ h)) ∙ (ap (λ k. find nat_cmp k es) (sym same) ∙ there)))
+        absurd (none-some v (sym (not_above e.0 es (left_of_both _ _ h)) ∙ (ap (λ k. find nat_cmp k es) (sym same) ∙ there)))
     later d v false t there = there
 
     at : (b : Bool) → p e.1 ≡ b → (b || list_any p (map (λ e. e.1) es)) ≡ true → (list_any p (map (λ e. e.1) es) ≡ true → (d : ℕ) × (v : V) × (find nat_cmp d es ≡ Some v) × (p v ≡ true)) → (d : ℕ) × (v : V) × (find nat_cmp d (e ∷ es) ≡ Some v) × (p v ≡ true)

@@ -1,11 +1,13 @@
 -- The entries of a map whose keys pass a test, as they are met one after another by rising key.
-use Rattle.std.proofs.Common.{◌≡◌, Bool, true, false, cond, ◌&&◌, T, List, [], ◌∷◌, ◌++◌, Option, Some, None, refl, sym, ap, ◌∙◌}
+use Rattle.std.proofs.Common.{◌≡◌, Bool, true, false, cond, T, List, [], ◌∷◌, ◌++◌, Option, Some, None, refl, sym, ap, ◌∙◌}
 use Rattle.std.specs.Prelude.{is_some}
 use Rattle.std.specs.declared.cmp.Ordering.{Ordering}
 use Rattle.std.specs.declared.cmp.Ordering.TheVariants.{Less, Equal, Greater}
 use Rattle.std.specs.Ordering.{is_lt, is_le, is_eq, eq_by_cmp, ordering_reverse}
 use Rattle.std.specs.Cmp.{IsTotalOrder, tied_itself}
 use Rattle.std.specs.FinMap.Entries.{find, is_sorted, where_key, below_all}
+use Rattle.mesh_base.proofs.Lemmas.Bools.{left_of_both, right_of_both}
+use Rattle.mesh_base.proofs.Lemmas.Maps.{is_less}
 
 still_there : {X : Type 0} (b : Bool) (x : X) (o : Option X) → is_some o ≡ true → is_some (cond b (Some x) o) ≡ true
 still_there true x o there = refl
@@ -45,25 +47,12 @@ before R b k = is_lt (R k b)
 abbrev pub up_to : {K : Type 0} → (K → K → Ordering) → K → K → Bool
 up_to R b k = is_le (R k b)
 
-is_less : (r : Ordering) → T (is_lt r) → r ≡ Less
-is_less Less t = refl
-is_less Equal t = absurd t
-is_less Greater t = absurd t
-
-both-left : (a b : Bool) → T (a && b) → T a
-both-left true b t = tt
-both-left false b t = absurd t
-
-both-right : (a b : Bool) → T (a && b) → T b
-both-right true b t = t
-both-right false b t = absurd t
-
 -- none of those above a key is up to it
 none_above : {K X : Type 0} (R : K → K → Ordering) (o : IsTotalOrder R) (b x : K) (es : List (K × X)) → R b x ≡ Equal → T (below_all R x es) → (where_key R (before R b) es ≡ []) × (where_key R (up_to R b) es ≡ [])
 none_above R o b x [] tie above = (refl, refl)
 none_above {K} {X} R o b x (e ∷ es) tie above =
-    let less : R x e.0 ≡ Less = is_less (R x e.0) (both-left (is_lt (R x e.0)) (below_all R x es) above) in
-    let rest = none_above R o b x es tie (both-right (is_lt (R x e.0)) (below_all R x es) above) in
+    let less : R x e.0 ≡ Less = is_less (R x e.0) (left_of_both (is_lt (R x e.0)) (below_all R x es) above) in
+    let rest = none_above R o b x es tie (right_of_both (is_lt (R x e.0)) (below_all R x es) above) in
     let up : R b e.0 ≡ Less = o.congr b x e.0 tie ∙ less in
     let down : R e.0 b ≡ Greater = o.antisymm e.0 b ∙ ap ordering_reverse up in
     (rw (down, rest.0) refl, rw (down, rest.1) refl)
@@ -72,14 +61,14 @@ none_above {K} {X} R o b x (e ∷ es) tie above =
 pub where_upto : {K X : Type 0} (R : K → K → Ordering) (o : IsTotalOrder R) (anti : (x y : K) → R x y ≡ Equal → x ≡ y) (b : K) (es : List (K × X)) → T (is_sorted R es) → where_key R (up_to R b) es ≡ where_key R (before R b) es ++ at b (find R b es)
 where_upto R o anti b [] sorted = refl
 where_upto {K} {X} R o anti b (e ∷ es) sorted =
-    let later = where_upto R o anti b es (both-right (below_all R e.0 es) (is_sorted R es) sorted) in
+    let later = where_upto R o anti b es (right_of_both (below_all R e.0 es) (is_sorted R es) sorted) in
     elim (R b e.0) as (λ r. R b e.0 ≡ r → where_key R (up_to R b) (e ∷ es) ≡ where_key R (before R b) (e ∷ es) ++ at b (find R b (e ∷ es))) [
       | Less ↦ λ r.
           let down : R e.0 b ≡ Greater = o.antisymm e.0 b ∙ ap ordering_reverse r in
           rw (down, r, later) refl
       | Equal ↦ λ r.
           let down : R e.0 b ≡ Equal = o.antisymm e.0 b ∙ ap ordering_reverse r in
-          let none = none_above R o b e.0 es r (both-left (below_all R e.0 es) (is_sorted R es) sorted) in
+          let none = none_above R o b e.0 es r (left_of_both (below_all R e.0 es) (is_sorted R es) sorted) in
           rw (down, r, none.0, none.1) (sym (ap (λ k. (k, e.1) ∷ []) (anti b e.0 r)))
       | Greater ↦ λ r.
           let down : R e.0 b ≡ Less = o.antisymm e.0 b ∙ ap ordering_reverse r in

@@ -4,13 +4,15 @@ use Rattle.std.specs.Prelude.{◌||◌, is_some}
 use Rattle.std.specs.declared.cmp.Ordering.{Ordering}
 use Rattle.std.specs.declared.cmp.Ordering.TheVariants.{Less, Equal, Greater}
 use Rattle.std.specs.Ordering.{is_lt, is_le, nat_cmp, ordering_then, eq_by_cmp}
-use Rattle.std.specs.List.{list_any}
+use Rattle.std.specs.List.{list_any, AllByRecursion}
 use Rattle.std.specs.FinMap as maps
 use Rattle.std.specs.FinMap.{FinMap, find, entries_sorted, get-entries}
 use Rattle.std.specs.FinMap.Entries.{where_key}
 use Rattle.std.specs.FinSet as sets
 use Rattle.std.proofs.lemmas.Bool.{cases_lt}
 use Rattle.std.proofs.lemmas.List.{map-append}
+use Rattle.mesh_base.proofs.Lemmas.Lists.{each_mapped}
+use Rattle.mesh_base.proofs.Lemmas.Maps.{each_entry}
 use Rattle.aodv_model.specs.Pairs.{Pairs, pair_cmp, as_keys, pairs_in}
 use Rattle.aodv_model.proofs.PairLaws.{pair_cmp_total, same_pair}
 use Rattle.aodv_model.proofs.Listing.{at, before, up_to, where_all, where_none, where_same, where_upto}
@@ -23,12 +25,20 @@ get-as_keys-insert m p q =
     ap is_some (maps.get-insert pair_cmp_total m p tt q)
     ∙ elim (eq_by_cmp pair_cmp q p) as (λ b. is_some (cond b (Some tt) (maps.get m q)) ≡ (b || is_some (maps.get m q))) [ true ↦ refl | false ↦ refl ]
 
-get-as_keys : (ps : List (ℕ × ℕ)) (q : ℕ × ℕ) → is_some (maps.get (as_keys ps) q) ≡ list_any (eq_by_cmp pair_cmp q) ps
+pub get-as_keys : (ps : List (ℕ × ℕ)) (q : ℕ × ℕ) → is_some (maps.get (as_keys ps) q) ≡ list_any (eq_by_cmp pair_cmp q) ps
 get-as_keys [] q = ap is_some (maps.get-empty pair_cmp q)
 get-as_keys (p ∷ ps) q = get-as_keys-insert (as_keys ps) p q ∙ ap (λ (b : Bool). eq_by_cmp pair_cmp q p || b) (get-as_keys ps q)
 
 pub get-keys_of : (s : Pairs) (q : ℕ × ℕ) → is_some (maps.get (as_keys (sets.items s)) q) ≡ sets.contains s q
 get-keys_of s q = get-as_keys (sets.items s) q ∙ sym (sets.contains-items s q)
+
+-- what holds of each member holds of each pair that is listed
+pub each_pair : (s : Pairs) (P : ℕ × ℕ → Type 0) → ((q : ℕ × ℕ) → sets.contains s q ≡ true → P q) → AllByRecursion P (pairs_in s)
+unfolding pairs_in
+each_pair s P each =
+    let m = as_keys (sets.items s) in
+    each_mapped (λ (e : (ℕ × ℕ) × Unit {0}). e.0) P (maps.entries m) (each_entry pair_cmp pair_cmp_total (λ k v. P k) m (λ k v there.
+    each k (sym (get-keys_of s k) ∙ ap is_some there)))
 
 -- ---- the pairs before one
 

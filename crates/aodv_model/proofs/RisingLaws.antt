@@ -1,6 +1,6 @@
 -- Rising destinations as a map.
-use Rattle.std.proofs.Common.{◌≡◌, ◌<◌, ◌≤◌, ℕ, zero, suc, Bool, true, false, cond, ltb, eqb, ◌&&◌, List, [], ◌∷◌, ◌++◌, length, Option, Some, None, refl, sym, ap, subst, ◌∙◌, arith}
-use Rattle.std.specs.Prelude.{IsTrue, T, slice_get, get_or}
+use Rattle.std.proofs.Common.{◌≡◌, ◌<◌, ◌≤◌, ℕ, zero, suc, Bool, true, false, cond, eqb, List, [], ◌∷◌, ◌++◌, length, Option, Some, None, refl, sym, ap, subst, ◌∙◌, arith}
+use Rattle.std.specs.Prelude.{IsTrue, T, get_or}
 use Rattle.std.proofs.lemmas.Bool.{cases_lt}
 use Rattle.std.specs.declared.cmp.Ordering.{Ordering}
 use Rattle.std.specs.FinMap.Entries.{by_order}
@@ -17,9 +17,9 @@ use Rattle.std.specs.Ordering.{is_lt}
 use Rattle.std.specs.List.Sorted.{IsNonDecreasingBy}
 use Rattle.std.proofs.lemmas.List.{get_or_default}
 use Rattle.std.proofs.lemmas.Bool.{ne_eqb, cases_eq}
-use Rattle.std.proofs.lemmas.Bool.Decides.{nat_tests}
 use Rattle.std.proofs.lemmas.Cmp.{nat_cmp_total}
 use Rattle.std.proofs.lemmas.Option.{none-some}
+use Rattle.mesh_base.proofs.Lemmas.Bools.{left_of_both, right_of_both}
 use Rattle.aodv_model.specs.Destinations.{Numbers, IsRising}
 
 pub entries_of : (es : List (ℕ × ℕ)) → IsRising es → maps.entries (maps.from_sorted {R = nat_cmp} es) ≡ es
@@ -71,11 +71,6 @@ pushed es d n is above =
 pub entries_shown : (es : List (ℕ × ℕ)) (m : Numbers) → IsRising es → maps.from_sorted es ≡ m → maps.entries m ≡ es
 entries_shown es m is e = sym (ap maps.entries e) ∙ entries_of es is
 
-pub slice_get_at : {X : Type 0} (xs : List X) (k : ℕ) (d : X) → k < length xs → slice_get xs k ≡ Some (get_or xs k d)
-slice_get_at [] k d h = absurd (omega arith)
-slice_get_at (x ∷ xs) zero d h = refl
-slice_get_at (x ∷ xs) (suc k) d h = slice_get_at xs k d (omega arith)
-
 -- ---- a binary search
 
 is_true : (b : Bool) → IsTrue b → T b
@@ -84,14 +79,6 @@ is_true false e = absurd (none_true e)
   where
     none_true : false ≡ true → ⊥
     none_true e = cc
-
-first_of_both : (a b : Bool) → T (a && b) → T a
-first_of_both true b p = tt
-first_of_both false b p = p
-
-second_of_both : (a b : Bool) → T (a && b) → T b
-second_of_both true b p = p
-second_of_both false b p = absurd p
 
 lower : (o : Ordering) → T (is_lt o) → Less ≡ o
 lower Less h = refl
@@ -104,14 +91,14 @@ dest_at x es k = (get_or es k x).0
 
 above_first : {X : Type 0} (x : ℕ × X) (d : ℕ) (es : List (ℕ × X)) (i : ℕ) → T (below_all nat_cmp d es) → i < length es → d < dest_at x es i
 above_first x d [] i below h = absurd (omega arith)
-above_first x d (e ∷ es) zero below h = ranked d e.0 Less (lower (nat_cmp d e.0) (first_of_both _ _ below))
-above_first x d (e ∷ es) (suc i) below h = above_first x d es i (second_of_both _ _ below) (omega arith)
+above_first x d (e ∷ es) zero below h = ranked d e.0 Less (lower (nat_cmp d e.0) (left_of_both _ _ below))
+above_first x d (e ∷ es) (suc i) below h = above_first x d es i (right_of_both _ _ below) (omega arith)
 
 pub rises : {X : Type 0} (x : ℕ × X) (es : List (ℕ × X)) (i j : ℕ) → T (is_sorted nat_cmp es) → i < j → j < length es → dest_at x es i < dest_at x es j
 rises x [] i j sorted lt h = absurd (omega arith)
 rises x (e ∷ es) i zero sorted lt h = absurd (omega arith)
-rises x (e ∷ es) zero (suc j) sorted lt h = above_first x e.0 es j (first_of_both _ _ sorted) (omega arith)
-rises x (e ∷ es) (suc i) (suc j) sorted lt h = rises x es i j (second_of_both _ _ sorted) (omega arith) (omega arith)
+rises x (e ∷ es) zero (suc j) sorted lt h = above_first x e.0 es j (left_of_both _ _ sorted) (omega arith)
+rises x (e ∷ es) (suc i) (suc j) sorted lt h = rises x es i j (right_of_both _ _ sorted) (omega arith) (omega arith)
 
 rises_or_same : (es : List (ℕ × ℕ)) (i j : ℕ) → IsRising es → i ≤ j → j < length es → dest_at (0, 0) es i ≤ dest_at (0, 0) es j
 rises_or_same es i j is le h =
@@ -123,12 +110,6 @@ rises_or_same es i j is le h =
 pub falls_nowhere : (es : List (ℕ × ℕ)) → IsRising es → IsNonDecreasingBy (λ p. p.0) es
 falls_nowhere es is i j d le h =
     rw (get_or_default es i d (0, 0) (omega arith), get_or_default es j d (0, 0) h) (rises_or_same es i j is le h)
-
-pub below_if : (m n : ℕ) → ltb m n ≡ true → m < n
-below_if m n h = grind (arith, nat_tests)
-
-pub from_if : (m n : ℕ) → ltb m n ≡ false → n ≤ m
-from_if m n h = grind (arith, nat_tests)
 
 -- an index with all lower destinations before it and none after it
 pub record IsIndexFor (es : List (ℕ × ℕ)) (d index : ℕ) : Type 0 where
@@ -212,7 +193,7 @@ found_at x [] k sorted h = absurd (omega arith)
 found_at x (e ∷ es) zero sorted h = rw (unsigned_tied e.0 e.0, eq-eqb e.0 e.0 refl) refl
 found_at x (e ∷ es) (suc k) sorted h =
     let up = rises x (e ∷ es) 0 (suc k) sorted (omega arith) h in
-    rw (unsigned_tied (dest_at x es k) e.0, ne_eqb (dest_at x es k) e.0 (λ same. omega arith)) (found_at x es k (second_of_both _ _ sorted) (omega arith))
+    rw (unsigned_tied (dest_at x es k) e.0, ne_eqb (dest_at x es k) e.0 (λ same. omega arith)) (found_at x es k (right_of_both _ _ sorted) (omega arith))
 
 few_entries : {X : Type 0} (es : List (ℕ × X)) (n : ℕ) → T (is_sorted nat_cmp es) → ((q : ℕ) → n ≤ q → find nat_cmp q es ≡ None) → length es ≤ n
 few_entries [] n sorted none = omega arith
@@ -229,4 +210,4 @@ few_below m n none = few_entries (maps.entries m) n (maps.entries_sorted m) (λ 
 -- the pairs after the first rise too, and none of them has its destination
 pub no_later : (e : ℕ × ℕ) (es : List (ℕ × ℕ)) → T (is_sorted nat_cmp (e ∷ es)) → T (is_sorted nat_cmp es) × (find nat_cmp e.0 es ≡ None)
 no_later e es sorted =
-    (second_of_both _ _ sorted, find_nowhere es e.0 (λ i h same. let up = above_first (0, 0) e.0 es i (first_of_both _ _ sorted) h in omega arith))
+    (right_of_both _ _ sorted, find_nowhere es e.0 (λ i h same. let up = above_first (0, 0) e.0 es i (left_of_both _ _ sorted) h in omega arith))

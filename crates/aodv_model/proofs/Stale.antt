@@ -17,7 +17,7 @@ use Rattle.aodv_model.specs.Handlers.{route_entry, is_stale_beside, is_stale}
 use Rattle.aodv_model.proofs.Lookups.{get-update}
 
 -- the union with no node
-with_none : (s : NodeIds) → sets.union s sets.empty ≡ s
+pub with_none : (s : NodeIds) → sets.union s sets.empty ≡ s
 with_none s = sets.same_set nat_cmp_total maps.nat_cmp-IsAntisymmetric (sets.union s sets.empty) s (λ q. sets.contains-union nat_cmp_total s sets.empty q ∙ ap (λ b. sets.contains s q || b) (sets.contains-empty nat_cmp q) ∙ or_false (sets.contains s q))
   where
     or_false : (b : Bool) → (b || false) ≡ b

@@ -20,7 +20,7 @@ sends_are c stored valid both stored_are valid_are is d =
     ∙ ap (λ (b : Bool). in_qD c.store d && b) (ap (λ (s : NodeIds). sets.contains s d) valid_are ∙ contains-valid_dests c.rt d)
 
 -- what needs a request has data
-has_some : (bs : List Body) → bs ≢ [] → has_data bs ≡ true
+pub has_some : (bs : List Body) → bs ≢ [] → has_data bs ≡ true
 has_some [] l = absurd (l refl)
 has_some (b ∷ bs) l = refl
 

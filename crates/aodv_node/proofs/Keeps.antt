@@ -25,7 +25,7 @@ use Rattle.aodv_node.specs.Turned.{IsReadableItem, IsTurn}
 use Rattle.aodv_node.specs.Discovered.{IsSend, IsAsk}
 
 -- the item of the model is in the mesh
-item_is_in_mesh : (mesh : Nodes) (me : ℕ) (i : items.Item) → IsReadableItem mesh i → IsItemAt (length mesh) me i → IsItemInMesh (length mesh) me (item_in mesh i)
+pub item_is_in_mesh : (mesh : Nodes) (me : ℕ) (i : items.Item) → IsReadableItem mesh i → IsItemAt (length mesh) me i → IsItemInMesh (length mesh) me (item_in mesh i)
 item_is_in_mesh mesh me (item.New dest body) ok at = at
 item_is_in_mesh mesh me (item.Heard from bytes) ok at = (at.0, at.1, spelled_in mesh bytes ok.allowed ok.known)
 

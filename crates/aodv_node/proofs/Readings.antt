@@ -23,7 +23,7 @@ use Rattle.aodv_node.specs.Meanings.{Means}
 use Rattle.aodv_node.specs.Turned.{IsReadable, needs_memory}
 use Rattle.aodv_node.specs.Heard.{IsHeard, Tries, with_kind}
 
-means : (mesh : Nodes) (bytes : List ℕ) (m : wire.Message) → Encodes bytes m → meaning mesh bytes ≡ in_mesh mesh m
+pub means : (mesh : Nodes) (bytes : List ℕ) (m : wire.Message) → Encodes bytes m → meaning mesh bytes ≡ in_mesh mesh m
 unfolding meaning
 means mesh bytes m s = ap (in_mesh mesh) s.stands
 

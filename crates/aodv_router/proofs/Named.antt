@@ -8,19 +8,21 @@ use Rattle.mesh_base.specs.Meshes.{Nodes, IsMesh, addr_at}
 use Rattle.mesh_base.specs.declared.events.Effect as effects
 use Rattle.mesh_base.specs.declared.events.Item as items
 use Rattle.mesh_base.specs.declared.events.Item.TheVariants as item
+use Rattle.mesh_base.proofs.Ranks.{all-push}
 use Rattle.aodv_model.specs.Cores.{Body, Core}
 use Rattle.aodv_model.specs.Handlers.{Cast, Nothing, One, Many, All, Effect, Own, Stored, turn, took, send, ask}
 use Rattle.aodv_model.specs.Soundness.{IsDatum, IsItemInMesh, IsEffectInMesh, IsAimed}
 use Rattle.aodv_model.proofs.MeshNames.{turn_names_the_mesh, send_names_the_mesh, ask_names_the_mesh}
 use Rattle.aodv_meaning.specs.Effects.{item_in, cast_of, effect_of}
-use Rattle.aodv_meaning.proofs.Means.{is_there, spelled_in}
+use Rattle.aodv_meaning.proofs.Means.{is_there}
 use Rattle.aodv_node.specs.Seen.{NodeSeen, IsItemAt, IsSoundNode}
-use Rattle.aodv_node.specs.Turned.{IsReadableItem, IsTaken, IsTurn, taken_of}
+use Rattle.aodv_node.specs.Turned.{IsTaken, IsTurn, taken_of}
 use Rattle.aodv_node.specs.Discovered.{IsSend, IsAsk}
 use Rattle.aodv_node.specs.declared.answers.TurnDone as done
 use Rattle.aodv_node.specs.declared.answers.TurnError as turns
 use Rattle.aodv_node.specs.declared.answers.SendError as sends
 use Rattle.aodv_node.specs.declared.answers.AskError as asks
+use Rattle.aodv_node.proofs.Keeps.{item_is_in_mesh}
 use Rattle.aodv_router.specs.declared.outcome.Outcome.{Outcome}
 use Rattle.aodv_router.specs.declared.outcome.Taken.{Taken}
 use Rattle.aodv_router.specs.declared.answers.TurnError.{TurnError}
@@ -40,13 +42,8 @@ broken_in : (nodes : Nodes) (o : Option ℕ) → IsMesh nodes → IfSome o (λ y
 broken_in nodes None is h = tt
 broken_in nodes (Some y) is h = is_in nodes y is h
 
--- one more at the back
-one_more : (P : ℕ → Type 0) (xs : List ℕ) (x : ℕ) → AllByRecursion P xs → P x → AllByRecursion P (xs ++ x ∷ [])
-one_more P [] x all at = (at, tt)
-one_more P (y ∷ ys) x all at = (all.0, one_more P ys x all.1 at)
-
 if_more : (P : ℕ → Type 0) (b : Bool) (xs : List ℕ) (x : ℕ) → AllByRecursion P xs → P x → AllByRecursion P (if b then xs ++ x ∷ [] else xs)
-if_more P true xs x all at = one_more P xs x all at
+if_more P true xs x all at = all-push P xs x all at
 if_more P false xs x all at = all
 
 below_in : (nodes : Nodes) (passes : ℕ → Bool) (n : ℕ) → IsMesh nodes → n ≤ length nodes → AllByRecursion (λ a. IsIn nodes a) (addrs_below nodes passes n)
@@ -72,10 +69,6 @@ effect_in nodes e r bytes o is h did t = record {
 }
 
 -- ---- turns
-
-item_is_in_mesh : (mesh : Nodes) (me : ℕ) (i : items.Item) → IsReadableItem mesh i → IsItemAt (length mesh) me i → IsItemInMesh (length mesh) me (item_in mesh i)
-item_is_in_mesh mesh me (item.New dest body) ok at = at
-item_is_in_mesh mesh me (item.Heard from bytes) ok at = (at.0, at.1, spelled_in mesh bytes ok.allowed ok.known)
 
 datum_in : (mesh : Nodes) (b : Bool) (body : Body) (dest : ℕ) → IsMesh mesh → dest < length mesh → IsTakenIn mesh (taken_in mesh (taken_of (item.New dest body) (if b then Own body else Stored dest)))
 datum_in mesh true body dest is lt = tt

@@ -3,8 +3,8 @@ use Rattle.std.proofs.Common.{◌≡◌, ℕ, ◌+◌, ◌-◌, ◌<◌, ◌≤�
 use Rattle.std.specs.List.{position_or_len}
 use Rattle.std.proofs.lemmas.Bool.{cases_lt, cases_eq}
 use Rattle.std.proofs.lemmas.List.Edits.{length-insert, get_or-insert_at, get_or-insert_below, get_or-insert_above}
+use Rattle.std.proofs.lemmas.List.Sums.{prefix_len-le-length}
 use Rattle.mesh_base.specs.Meshes.{Nodes, first_at, index_of, with_node}
-use Rattle.mesh_base.proofs.PartLaws.{prefix_len_le}
 use Rattle.aodv_meaning.proofs.Means.{index_there}
 use Rattle.mesh_base.specs.declared.events.Variant.{Variant}
 use Rattle.aodv_model.specs.Cores.{Core, opening}
@@ -35,7 +35,7 @@ pub numbered_more : (me first : ℕ) (mesh : Nodes) (a : ℕ) → AreNumbered me
 unfolding with_node
 numbered_more me first mesh a is =
     let index : ℕ = position_or_len (λ p. ltb a p.0) mesh in
-    let le : index ≤ length mesh = prefix_len_le (λ p. not (ltb a p.0)) mesh in
+    let le : index ≤ length mesh = prefix_len-le-length (λ p. not (ltb a p.0)) mesh in
     let node : ℕ × ℕ = (a, number_for me first a) in
     λ i lt. node_there (λ q. q.1 ≡ number_for me first q.0) mesh index node i le (omega (arith, lt, length-insert mesh index node le)) is refl
 

@@ -58,7 +58,7 @@ get-one_pair d n q =
     ∙ ap (λ (b : Bool). cond b (Some n) (maps.get (maps.empty {R = nat_cmp}) q)) (unsigned_tied q d)
     ∙ ap (cond (eqb q d) (Some n)) (maps.get-empty nat_cmp q)
 
-untold : (o : Option Entry) → option_map (λ e. invalidated e None) o ≡ o
+pub untold : (o : Option Entry) → option_map (λ e. invalidated e None) o ≡ o
 untold None = refl
 untold (Some e) = refl
 
@@ -76,7 +76,7 @@ none_invalid rt d n none = same_table rt (invalidate rt (one_pair d n)) (λ q. s
       | inr other ↦ ap (λ o. option_map (λ x. invalidated x o) (maps.get rt q)) (get-one_pair d n q ∙ ap (λ (b : Bool). cond b (Some n) None) (ne_eqb q d other)) ∙ untold (maps.get rt q)
     ]))
 
-unjoined : (d : ℕ) (p : NodeIds) (q : ℕ) (o : Option Entry) → (q ≡ d → ⊥) → option_map (add_pre_at d p q) o ≡ o
+pub unjoined : (d : ℕ) (p : NodeIds) (q : ℕ) (o : Option Entry) → (q ≡ d → ⊥) → option_map (add_pre_at d p q) o ≡ o
 unjoined d p q None other = refl
 unjoined d p q (Some e) other = rw (ne_eqb q d other) refl
 

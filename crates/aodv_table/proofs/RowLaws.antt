@@ -4,7 +4,7 @@ use Rattle.std.specs.Prelude.{is_some, IsSome, OnOk, OnErr}
 use Rattle.std.specs.declared.result.Result.{Result}
 use Rattle.std.specs.declared.result.Result.TheVariants.{Ok, Err}
 use Rattle.std.specs.List.{list_any}
-use Rattle.std.proofs.lemmas.Bool.{ne_eqb, cases_eq, cases_lt}
+use Rattle.std.proofs.lemmas.Bool.{ne_eqb, cases_eq, cases_lt, or_right}
 use Rattle.std.proofs.lemmas.Cmp.{nat_cmp_total}
 use Rattle.std.specs.Ordering.{nat_cmp, eq_by_cmp}
 use Rattle.std.specs.Cmp.{unsigned_tied}
@@ -162,10 +162,6 @@ room_added rows rows' d o writes = same_nodes (rooms_in rows') (sets.insert (roo
 here : (s t : NodeIds) (d : ℕ) → t ≡ sets.insert s d → sets.contains t d ≡ true
 here s t d e = ap (λ (u : NodeIds). sets.contains u d) e ∙ sets.contains-insert nat_cmp_total s d d ∙ ap (λ (b : Bool). b || sets.contains s d) (unsigned_tied d d ∙ eq-eqb d d refl)
 
-or_true : (a b : Bool) → b ≡ true → (a || b) ≡ true
-or_true true b e = refl
-or_true false b e = e
-
 -- after room was made for d, or not
 pub room_here : {T E : Type 0} (r : Result T E) (s t : NodeIds) (d : ℕ) → OnOk r (t ≡ sets.insert s d) → OnOk r (sets.contains t d ≡ true)
 room_here (Ok x) s t d e = here s t d e
@@ -173,7 +169,7 @@ room_here (Err x) s t d e = tt
 
 pub room_kept : {T E : Type 0} (r : Result T E) (s t seen : NodeIds) (d : ℕ) → s ≡ seen → OnOk r (t ≡ sets.insert s d) → OnErr r (t ≡ s) → (q : ℕ) → sets.contains seen q ≡ true → sets.contains t q ≡ true
 room_kept (Ok x) s t seen d same e u q had =
-    ap (λ (v : NodeIds). sets.contains v q) e ∙ sets.contains-insert nat_cmp_total s d q ∙ or_true _ _ (ap (λ (v : NodeIds). sets.contains v q) same ∙ had)
+    ap (λ (v : NodeIds). sets.contains v q) e ∙ sets.contains-insert nat_cmp_total s d q ∙ or_right _ _ (ap (λ (v : NodeIds). sets.contains v q) same ∙ had)
 room_kept (Err x) s t seen d same e u q had = ap (λ (v : NodeIds). sets.contains v q) (u ∙ same) ∙ had
 
 -- ---- a row is written

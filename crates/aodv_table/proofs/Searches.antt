@@ -2,9 +2,10 @@
 use Rattle.std.proofs.Common.{◌≡◌, ◌<◌, ◌≤◌, ℕ, zero, suc, ◌+◌, Bool, true, false, cond, eqb, ltb, ◌&&◌, ◌||◌, List, [], ◌∷◌, map, length, get_or, Option, Some, None, refl, ap, sym, ◌∙◌, eq-eqb, inl, inr, arith}
 use Rattle.std.specs.Prelude.{option_map, is_some}
 use Rattle.std.specs.List.{list_any}
-use Rattle.std.proofs.lemmas.Bool.{ne_eqb, cases_eq, cases_lt, le-ltb, lt-ltb}
-use Rattle.std.proofs.lemmas.Option.{none-some}
+use Rattle.std.proofs.lemmas.Bool.{ne_eqb, cases_eq, cases_lt, le-ltb, lt-ltb, true≢false}
+use Rattle.std.proofs.lemmas.Option.{none-some, same_Some}
 use Rattle.std.proofs.lemmas.Cmp.{nat_cmp_total}
+use Rattle.std.proofs.Math.Bool.{and-false}
 use Rattle.std.specs.Ordering.{nat_cmp, eq_by_cmp}
 use Rattle.std.specs.Cmp.{unsigned_tied}
 use Rattle.std.specs.FinMap as maps
@@ -20,9 +21,6 @@ use Rattle.aodv_table.specs.Calls.{IsBelow, valid_dests, dests_by, is_past, IsLe
 use Rattle.aodv_model.proofs.Lookups.{get-unreachable_by}
 use Rattle.aodv_table.proofs.Lookups.{contains-valid_dests, contains-dests_by, kept_if_by, same_nodes, same_table}
 use Rattle.aodv_table.proofs.RowLaws.{contains-marked}
-
-pub true_false : true ≡ false → ⊥
-true_false e = cc
 
 -- ---- one destination
 
@@ -45,7 +43,7 @@ pub valid_below : (rt : Table) (valid : NodeIds) (n d : ℕ) → IsBelow n rt �
 valid_below rt valid n d below are has =
     elim (cases_lt d n) [
       | inl lt ↦ lt
-      | inr le ↦ absurd (true_false (sym has ∙ ap (λ (s : NodeIds). sets.contains s d) are ∙ contains-valid_dests rt d ∙ ap is_valid_in (below d le)))
+      | inr le ↦ absurd (true≢false (sym has ∙ ap (λ (s : NodeIds). sets.contains s d) are ∙ contains-valid_dests rt d ∙ ap is_valid_in (below d le)))
     ]
 
 -- ---- the set of destinations
@@ -76,10 +74,6 @@ found_one rt y d found found' is hit was = record {
       ];
 }
 
-and_false : (b : Bool) → (b && false) ≡ false
-and_false true = refl
-and_false false = refl
-
 pub found_other : (rt : Table) (y d : ℕ) (found : NodeIds) → is_some (by rt d y) ≡ false → Found rt y d found → Found rt y (d + 1) found
 found_other rt y d found miss was = record {
   so_far = λ q.
@@ -87,7 +81,7 @@ found_other rt y d found miss was = record {
       ∙ elim (cases_eq q d) [
         | inl same ↦
             let gone : goes_by (maps.get rt q) y ≡ false = ap (λ k. goes_by (maps.get rt k) y) same ∙ sym (kept_if_by (maps.get rt d) y) ∙ miss in
-            ap (λ (b : Bool). ltb q d && b) gone ∙ and_false (ltb q d) ∙ sym (ap (λ (b : Bool). ltb q (d + 1) && b) gone ∙ and_false (ltb q (d + 1)))
+            ap (λ (b : Bool). ltb q d && b) gone ∙ and-false (ltb q d) ∙ sym (ap (λ (b : Bool). ltb q (d + 1) && b) gone ∙ and-false (ltb q (d + 1)))
         | inr other ↦ ap (λ (b : Bool). b && goes_by (maps.get rt q) y) (later q d other)
       ];
 }
@@ -102,7 +96,7 @@ found_to rt y s d found valid are le gap was = record {
         | inr past ↦ elim (cases_lt q d) [
           | inl lt ↦
               let gone : goes_by (maps.get rt q) y ≡ false = none_by rt valid y q are (gap q past lt) in
-              ap (λ (b : Bool). ltb q s && b) gone ∙ and_false (ltb q s) ∙ sym (ap (λ (b : Bool). ltb q d && b) gone ∙ and_false (ltb q d))
+              ap (λ (b : Bool). ltb q s && b) gone ∙ and-false (ltb q s) ∙ sym (ap (λ (b : Bool). ltb q d && b) gone ∙ and-false (ltb q d))
           | inr late ↦ ap (λ (b : Bool). b && goes_by (maps.get rt q) y) (le-ltb q s past ∙ sym (le-ltb q d late))
         ]
       ];
@@ -174,9 +168,6 @@ raised_room rt y d out lt was = let few = few_below out d (raised_above rt y d o
 raised_at : (rt : Table) (y d : ℕ) (o : Option Entry) → o ≡ by rt d y → maps.get (unreachable_by rt y) d ≡ option_map (λ e. inc e.dsn) o
 raised_at rt y d o is = get-unreachable_by rt y d ∙ ap (option_map (λ e. inc e.dsn)) (sym is)
 
-some_is : (m n : ℕ) → Some m ≡ Some n → m ≡ n
-some_is m n e = cc
-
 inc_past : (n : ℕ) → inc n ≡ greatest + 1 → n ≡ greatest
 inc_past zero e = absurd (omega arith)
 inc_past (suc m) e =
@@ -196,7 +187,7 @@ raised_one rt y d n e out out' hit is fits put was =
             | inr other ↦ ap (λ (b : Bool). cond b (Some n) (maps.get out q)) (ne_eqb q d other) ∙ was.so_far q ∙ ap (λ (b : Bool). cond b (maps.get (unreachable_by rt y) q) None) (later q d other)
           ];
       in_range = λ q lt past. elim (cases_eq q d) [
-        | inl same ↦ let m : n ≡ greatest + 1 = some_is n (greatest + 1) (sym here ∙ ap (maps.get (unreachable_by rt y)) (sym same) ∙ past) in fits (inc_past e.dsn (sym is ∙ m))
+        | inl same ↦ let m : n ≡ greatest + 1 = same_Some n (greatest + 1) (sym here ∙ ap (maps.get (unreachable_by rt y)) (sym same) ∙ past) in fits (inc_past e.dsn (sym is ∙ m))
         | inr other ↦ was.in_range q (omega arith) past
       ];
     }
@@ -263,7 +254,7 @@ any_found (x ∷ es) d v e = either (eq_by_cmp nat_cmp d x.0) (any_found es d v)
 
     either : (b : Bool) → (find nat_cmp d es ≡ Some v → list_any (λ n. eqb n v) (map (λ e. e.1) es) ≡ true) → cond b (Some x.1) (find nat_cmp d es) ≡ Some v
         → (eqb x.1 v || list_any (λ n. eqb n v) (map (λ e. e.1) es)) ≡ true
-    either true rest h = ap (λ (b : Bool). b || list_any (λ n. eqb n v) (map (λ e. e.1) es)) (eq-eqb x.1 v (some_is x.1 v h))
+    either true rest h = ap (λ (b : Bool). b || list_any (λ n. eqb n v) (map (λ e. e.1) es)) (eq-eqb x.1 v (same_Some x.1 v h))
     either false rest h = or_true (eqb x.1 v) _ (rest h)
 
 none_past : (m : Dests) → ((q : ℕ) → maps.get m q ≡ Some (greatest + 1) → ⊥) → is_past m ≡ false

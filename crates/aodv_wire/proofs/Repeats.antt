@@ -2,8 +2,10 @@
 use Rattle.std.proofs.Common.{◌≡◌, ℕ, zero, suc, ◌+◌, ◌<◌, ◌≤◌, Bool, true, false, cond, eqb, ◌||◌, List, [], ◌∷◌, ◌++◌, length, slice_get, take, drop, Option, Some, None, refl, sym, ap, ◌∙◌, add-one, eq-eqb, arith}
 use Rattle.std.proofs.lemmas.Bool.{ne_eqb}
 use Rattle.std.proofs.lemmas.List.{drop_all}
+use Rattle.std.proofs.lemmas.Option.{same_Some}
 use Rattle.std.specs.List.{list_any}
 use Rattle.mesh_base.specs.declared.addr.Addr.{Addr}
+use Rattle.mesh_base.proofs.Lemmas.Lists.{drop_from}
 use Rattle.aodv_wire.specs.RouteError.{first_repeated}
 
 -- ---- one element of a list
@@ -17,19 +19,10 @@ none X = None
 none_some : {X : Type 0} (x : X) → none X ≡ some x → ⊥
 none_some x e = cc
 
-some_is : {X : Type 0} (x y : X) → some x ≡ some y → x ≡ y
-some_is x y e = cc
-
-drop_at_get : {X : Type 0} (xs : List X) (k : ℕ) (x : X) → slice_get xs k ≡ Some x → drop k xs ≡ x ∷ drop (suc k) xs
-drop_at_get [] zero x e = absurd (none_some x e)
-drop_at_get [] (suc k) x e = absurd (none_some x e)
-drop_at_get (y ∷ xs) zero x e = ap (λ z. z ∷ xs) (some_is y x e)
-drop_at_get (y ∷ xs) (suc k) x e = drop_at_get xs k x e
-
 take_at_get : {X : Type 0} (xs : List X) (k : ℕ) (x : X) → slice_get xs k ≡ Some x → take (suc k) xs ≡ take k xs ++ x ∷ []
 take_at_get [] zero x e = absurd (none_some x e)
 take_at_get [] (suc k) x e = absurd (none_some x e)
-take_at_get (y ∷ xs) zero x e = ap (λ z. z ∷ []) (some_is y x e)
+take_at_get (y ∷ xs) zero x e = ap (λ z. z ∷ []) (same_Some y x e)
 take_at_get (y ∷ xs) (suc k) x e = ap (λ zs. y ∷ zs) (take_at_get xs k x e)
 
 get_take : {X : Type 0} (xs : List X) (n k : ℕ) → k < n → slice_get (take n xs) k ≡ slice_get xs k
@@ -46,7 +39,7 @@ any_rest xs n q j = list_any (λ s. eqb s.0 q) (drop j (take n xs))
 
 any_goes_on : (xs : List Addr) (n j q : ℕ) (x : Addr) → j < n → slice_get xs j ≡ Some x → any_rest xs n q j ≡ (eqb x.0 q || any_rest xs n q (j + 1))
 any_goes_on xs n j q x h here =
-    rw add-one (ap (list_any (λ (a : Addr). eqb a.0 q)) (drop_at_get (take n xs) j x (get_take xs n j h ∙ here)))
+    rw add-one (ap (list_any (λ (a : Addr). eqb a.0 q)) (drop_from (take n xs) j x (get_take xs n j h ∙ here)))
 
 pub any_found : (xs : List Addr) (n j q : ℕ) (x : Addr) → j < n → slice_get xs j ≡ Some x → x.0 ≡ q → any_rest xs n q j ≡ true
 any_found xs n j q x h here hit = any_goes_on xs n j q x h here ∙ ap (λ (t : Bool). t || any_rest xs n q (j + 1)) (eq-eqb x.0 q hit)
@@ -82,7 +75,7 @@ repeated_rest xs k = first_repeated (take k xs) (drop k xs)
 repeated_goes_on : (xs : List Addr) (k : ℕ) (x : Addr) → slice_get xs k ≡ Some x
     → repeated_rest xs k ≡ cond (list_any (λ s. eqb s.0 x.0) (take k xs)) (Some x) (repeated_rest xs (k + 1))
 repeated_goes_on xs k x here =
-    rw add-one (ap (first_repeated (take k xs)) (drop_at_get xs k x here) ∙ ap (λ (seen : List Addr). cond (list_any (λ (s : Addr). eqb s.0 x.0) (take k xs)) (Some x) (first_repeated seen (drop (suc k) xs))) (sym (take_at_get xs k x here)))
+    rw add-one (ap (first_repeated (take k xs)) (drop_from xs k x here) ∙ ap (λ (seen : List Addr). cond (list_any (λ (s : Addr). eqb s.0 x.0) (take k xs)) (Some x) (first_repeated seen (drop (suc k) xs))) (sym (take_at_get xs k x here)))
 
 pub repeated_found : (xs : List Addr) (k : ℕ) (x : Addr) → slice_get xs k ≡ Some x → list_any (λ s. eqb s.0 x.0) (take k xs) ≡ true → repeated_rest xs k ≡ Some x
 repeated_found xs k x here hit = repeated_goes_on xs k x here ∙ ap (λ (t : Bool). cond t (Some x) (repeated_rest xs (k + 1))) hit

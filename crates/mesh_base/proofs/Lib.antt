@@ -12,3 +12,4 @@ pub mod AddressLaws
 pub mod Ranks
 pub mod BitCounts
 pub mod StemLaws
+pub mod Lemmas

@@ -1,9 +1,8 @@
 -- A mesh by rising addresses: where an address stands, and one more node.
-use Rattle.std.proofs.Common.{◌^◌, ◌≡◌, ◌≢◌, ℕ, ◌+◌, ◌-◌, ◌<◌, ◌≤◌, true, false, eqb, ltb, length, Some, None, get_or, insert, refl, sym, ap, subst, ◌∙◌, ◌⊎◌, arith, inl, inr, eq-eqb}
+use Rattle.std.proofs.Common.{◌^◌, ◌≡◌, ◌≢◌, ℕ, ◌+◌, ◌-◌, ◌<◌, ◌≤◌, eqb, ltb, length, Some, None, get_or, insert, refl, sym, ap, subst, ◌∙◌, ◌⊎◌, arith, inl, inr, eq-eqb}
 use Rattle.std.specs.List.{position_or_len}
 use Rattle.std.specs.List.Sorted.{IsNonDecreasingBy}
 use Rattle.std.proofs.lemmas.Bool.{ne_eqb, cases_lt, cases_eq, lt-ltb, le-ltb}
-use Rattle.std.proofs.lemmas.Bool.Decides.{nat_tests}
 use Rattle.std.proofs.lemmas.List.{get_or_default}
 use Rattle.std.proofs.lemmas.List.Sums.{position_or_len_is}
 use Rattle.std.proofs.lemmas.List.Edits.{length-insert, get_or-insert_at, get_or-insert_below, get_or-insert_above}
@@ -16,12 +15,6 @@ rising_le mesh i j is le lt = elim (cases_eq i j) [ inl same ↦ omega (arith, a
 pub falls_nowhere : (mesh : Nodes) → IsMesh mesh → IsNonDecreasingBy (λ p. p.0) mesh
 falls_nowhere mesh is i j d le lt =
     rw (get_or_default mesh i d (0, 0) (omega arith), get_or_default mesh j d (0, 0) lt) (rising_le mesh i j is le lt)
-
-pub below_if : (m n : ℕ) → ltb m n ≡ true → m < n
-below_if m n h = grind (arith, nat_tests)
-
-pub from_if : (m n : ℕ) → ltb m n ≡ false → n ≤ m
-from_if m n h = grind (arith, nat_tests)
 
 -- an index with all lower addresses before it and none after it
 pub record IsIndexFor (mesh : Nodes) (a index : ℕ) : Type 0 where

@@ -1,5 +1,5 @@
 -- The numbers of an address by their digits.
-use Rattle.std.proofs.Common.{◌≡◌, ℕ, ◌+◌, ◌-◌, ◌*◌, ◌<◌, ◌≤◌, Bool, true, false, eqb, not, cond, ◌&&◌, List, [], ◌∷◌, Option, Some, None, length, drop, refl, ap, subst, ◌∙◌, sym, arith, inl, inr}
+use Rattle.std.proofs.Common.{◌≡◌, ℕ, ◌+◌, ◌-◌, ◌*◌, ◌<◌, ◌≤◌, Bool, true, false, eqb, not, cond, List, [], ◌∷◌, Option, Some, None, length, drop, refl, ap, subst, ◌∙◌, sym, arith, inl, inr}
 use Rattle.std.specs.Prelude.{slice_index}
 use Rattle.std.specs.Option.{option_map}
 use Rattle.std.specs.Str.{all_ascii_digits}
@@ -8,6 +8,7 @@ use Rattle.std.specs.List.{onto_first}
 use Rattle.std.proofs.lemmas.Bool.{ne_eqb, cases_eq}
 use Rattle.std.proofs.lemmas.Bool.Decides.{nat_tests}
 use Rattle.std.proofs.lemmas.List.Splits.{length-slice_split, slice_split-cons_no, slice_split-cons_yes}
+use Rattle.std.proofs.Math.Bool.{and-false}
 use Rattle.mesh_base.specs.Numbers.{read_on, is_canonical, digits_up_to, number_up_to}
 use Rattle.mesh_base.specs.Parts.{parts}
 use Rattle.mesh_base.specs.Octets.{number_and, first_octet, IsDotAt}
@@ -49,12 +50,8 @@ digits_cons a ds h i = rw h i
 first_other : (a : ℕ) (ds : List ℕ) → is_ascii_digit a ≡ false → all_ascii_digits (a ∷ ds) ≡ false
 first_other a ds h = rw h refl
 
-and_false : (b : Bool) → (b && false) ≡ false
-and_false true = refl
-and_false false = refl
-
 later_other : (a : ℕ) (ds : List ℕ) → all_ascii_digits ds ≡ false → all_ascii_digits (a ∷ ds) ≡ false
-later_other a ds h = rw h (and_false (is_ascii_digit a))
+later_other a ds h = rw h (and-false (is_ascii_digit a))
 
 -- the numbers of one, two and three digits
 

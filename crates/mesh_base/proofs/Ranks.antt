@@ -54,7 +54,7 @@ members_few (suc n) s =
       | false ↦ omega arith
     ]
 
-all-push : (P : ℕ → Type 0) (xs : List ℕ) (x : ℕ) → AllByRecursion P xs → P x → AllByRecursion P (xs ++ x ∷ [])
+pub all-push : (P : ℕ → Type 0) (xs : List ℕ) (x : ℕ) → AllByRecursion P xs → P x → AllByRecursion P (xs ++ x ∷ [])
 all-push P [] x all is = (is, all)
 all-push P (y ∷ xs) x all is = (all.0, all-push P xs x all.1 is)
 

@@ -2,17 +2,12 @@
 use Rattle.std.proofs.Common.{◌≡◌, ℕ, zero, suc, ◌+◌, ◌*◌, ◌^◌, ◌<◌, ◌≤◌, Bool, true, false, eqb, leb, ltb, cond, ◌&&◌, List, [], ◌∷◌, Option, Some, None, length, refl, arith, leb-true}
 use Rattle.std.specs.List.{position_or_len}
 use Rattle.std.specs.Str.{all_ascii_digits}
-use Rattle.std.proofs.lemmas.Bool.{and_parts}
-use Rattle.std.proofs.lemmas.Option.{option_and_then_some}
+use Rattle.std.proofs.lemmas.Bool.{and_parts, ltb-true}
+use Rattle.std.proofs.lemmas.Option.{option_and_then_some, cond_some}
 use Rattle.mesh_base.specs.Numbers.{read_on, is_canonical, digits_up_to, number_up_to, positive}
 use Rattle.mesh_base.specs.Parts.{parts}
 use Rattle.mesh_base.specs.Addresses.{address_of, address_from}
 use Rattle.mesh_base.specs.Meshes.{Nodes, index_of}
-use Rattle.mesh_base.proofs.MeshLaws.{below_if}
-
-cond_some : (b : Bool) (x n : ℕ) → cond b (Some x) None ≡ Some n → (b ≡ true) × (x ≡ n)
-cond_some true x n h = (refl, cc)
-cond_some false x n h = cc
 
 -- ---- numbers
 
@@ -79,6 +74,6 @@ unfolding index_of
 index_within mesh a i h =
     let index : ℕ = position_or_len (λ p. eqb p.0 a) mesh in
     let c = cond_some (ltb index (length mesh)) index i h in
-    let lt = below_if index (length mesh) c.0 in
+    let lt = ltb-true index (length mesh) c.0 in
     let same = c.1 in
     omega arith

@@ -1,7 +1,7 @@
 -- What the tables of written numbers hold.
 use Rattle.std.proofs.Common.{◌≡◌, ℕ, zero, suc, ◌+◌, ◌/◌, ◌%◌, ◌<◌, ◌++◌, Bool, true, false, eqb, ◌&&◌, List, [], ◌∷◌, take, length, get_or, refl, ap, ◌∙◌, sym, subst, inl, inr, arith}
 use Rattle.std.specs.Fmt.{decimal, digits}
-use Rattle.std.proofs.lemmas.Bool.{cases_eq}
+use Rattle.std.proofs.lemmas.Bool.{cases_eq, and_parts}
 use Rattle.std.proofs.lemmas.Bool.Decides.{nat_tests}
 use Rattle.mesh_base.specs.declared.text.TheConstants.{PAIRS}
 use Rattle.mesh_base.specs.declared.octets.TheConstants.{OCTETS, WIDTHS}
@@ -12,9 +12,6 @@ are_same [] [] = true
 are_same [] (y ∷ ys) = false
 are_same (x ∷ xs) [] = false
 are_same (x ∷ xs) (y ∷ ys) = eqb x y && are_same xs ys
-
-split : (a b : Bool) → (a && b) ≡ true → (a ≡ true) × (b ≡ true)
-split a b h = grind (arith, nat_tests)
 
 both : (a b : ℕ) (others : Bool) → (eqb a b && others) ≡ true → (a ≡ b) × (others ≡ true)
 both a b others h = grind (arith, nat_tests)
@@ -38,7 +35,7 @@ are_alike f g (suc n) = are_same (f n) (g n) && are_alike f g n
 among : (f g : ℕ → List ℕ) (k n : ℕ) → are_alike f g k ≡ true → n < k → f n ≡ g n
 among f g zero n h lt = absurd (omega arith)
 among f g (suc k) n h lt =
-    let here = split (are_same (f k) (g k)) (are_alike f g k) h in
+    let here = and_parts (are_same (f k) (g k)) (are_alike f g k) h in
     elim (cases_eq n k) [
       | inl same ↦ subst (λ m. f m ≡ g m) (sym same) (same_texts (f k) (g k) here.0)
       | inr other ↦ among f g k n here.1 (omega arith)

@@ -4,12 +4,11 @@ use Rattle.std.specs.List.{slice_get}
 use Rattle.std.specs.Io.KnownBytes.{Appends}
 use Rattle.mesh_base.specs.Meshes.{Nodes}
 use Rattle.mesh_base.specs.declared.events.Done.{Done}
-use Rattle.mesh_base.specs.declared.events.Done.TheVariants as done
 use Rattle.mesh_base.specs.declared.events.Event.{Event as EventGiven}
 use Rattle.mesh_io.specs.Puts.{AppendsPrefix, Puts}
 use Rattle.mesh_io.proofs.Writing.{AppendsPrefix-more, Puts-join}
 use Rattle.mesh_model.specs.Worlds as worlds
-use Rattle.mesh_model.specs.Worlds.{World, Event, Outcome, Idle, Next}
+use Rattle.mesh_model.specs.Worlds.{Event, Outcome, Idle, Next}
 use Rattle.mesh_model.specs.InMesh.{IsEvent}
 use Rattle.mesh_meaning.specs.Events.{event_of, node_of}
 use Rattle.mesh_meaning.specs.Answers.{outcome_in}
@@ -27,7 +26,7 @@ use Rattle.mesh_run.specs.declared.stop.Stop.{Stop}
 use Rattle.mesh_run.specs.declared.stop.Stop.TheVariants as stop
 use Rattle.mesh_run.specs.RunStates.{IsAnswer}
 use Rattle.mesh_run.specs.Runs.{IsLineDone, IsLineFull, IsLineStopped, outcome_by}
-use Rattle.mesh_run.proofs.Events.{answer_text, answer_mesh, node_came, refusal_fills}
+use Rattle.mesh_run.proofs.Events.{answer_text, answer_mesh, node_came, refusal_fills, by_done}
 use Rattle.mesh_blocks.specs.declared.below.Below.{Below}
 use Rattle.mesh_blocks.specs.declared.below.Below.TheVariants.{Blocks, Changes}
 use Rattle.mesh_blocks.specs.Blocks.{changed_by, shown_node, shown_if, block_below}
@@ -91,16 +90,6 @@ shown_whole m x mesh state a b c r same is p q =
     (subst (λ (l : Nodes). Appends a b (line (words_of l (ShowsNode x)))) same p) (subst (λ (l : List ℕ). Puts b c l r) is q)
 
 -- ---- an event by itself
-
-by_done : (m : RunState) (e : Event) (mesh : Nodes) (x : ℕ) (w : World) (d : Done) (packet : List ℕ)
-    → outcome_by m e (outcome_in mesh x w d packet) ≡ On (outcome_lines m.mesh e (outcome_in mesh x w d packet)) (next_state m e)
-by_done m e mesh x w done.Idle packet = refl
-by_done m e mesh x w done.Changed packet = refl
-by_done m e mesh x w (done.Taken took effect air) packet = refl
-by_done m e mesh x w (done.Sent effect air) packet = refl
-by_done m e mesh x w (done.Heard from to) packet = refl
-by_done m e mesh x w (done.Lost flying) packet = refl
-by_done m e mesh x w (done.Doubled id to parcel) packet = refl
 
 -- the lines of an event, and what stands below it
 abbrev pub watched_lines : Below → RunState → Event → List ℕ

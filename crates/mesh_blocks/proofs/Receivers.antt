@@ -1,28 +1,20 @@
 -- The receiver of a copy that may be delivered.
-use Rattle.std.proofs.Common.{◌≡◌, ◌∙◌, ◌==◌, ℕ, ◌<◌, Bool, true, false, List, [], ◌∷◌, map, length, Option, Some, None, IfSome, ap, refl, sym, subst}
-use Rattle.std.specs.Prelude.{if◌then◌else◌, option_map}
+use Rattle.std.proofs.Common.{◌≡◌, ◌∙◌, ℕ, ◌<◌, List, [], map, length, Option, Some, None, IfSome, ap, sym, subst}
+use Rattle.std.specs.Prelude.{option_map}
 use Rattle.std.specs.List.{AllByRecursion}
 use Rattle.std.proofs.lemmas.Option.{none-some}
 use Rattle.mesh_base.specs.Meshes.{Nodes}
 use Rattle.mesh_base.specs.declared.events.Flying.{Flying}
 use Rattle.aodv_model.specs.Cores.{Heard}
 use Rattle.mesh_model.specs.Worlds as worlds
-use Rattle.mesh_model.specs.Worlds.{World, Copy, Deliver, Next, CopyHeard, at_copy, push, step}
+use Rattle.mesh_model.specs.Worlds.{World, Deliver, Next, CopyHeard, at_copy, push, step}
 use Rattle.mesh_model.specs.InMesh.{IsCopyInMesh}
 use Rattle.mesh_model.proofs.Steps.{found_honest}
 use Rattle.mesh_radio.specs.Copies as radios
 use Rattle.mesh_meaning.specs.Packets.{copy_in}
 use Rattle.mesh_world.specs.Seen.{WorldSeen, IsSoundWorld}
-use Rattle.mesh_world.proofs.Arrivals.{deliver_at}
+use Rattle.mesh_world.proofs.Arrivals.{deliver_at, find_shown}
 use Rattle.mesh_blocks.specs.Blocks.{changed_by}
-
-found_if : (mesh : Nodes) (b : Bool) (f : Flying) (o : Option Copy) (p : Option Flying) → o ≡ option_map (copy_in mesh) p → (if b then Some (copy_in mesh f) else o) ≡ option_map (copy_in mesh) (if b then Some f else p)
-found_if mesh true f o p e = refl
-found_if mesh false f o p e = e
-
-find_shown : (mesh : Nodes) (cs : List Flying) (id : ℕ) → worlds.find_copy (map (copy_in mesh) cs) id ≡ option_map (copy_in mesh) (radios.find_copy cs id)
-find_shown mesh [] id = refl
-find_shown mesh (f ∷ cs) id = found_if mesh (f.id == id) f (worlds.find_copy (map (copy_in mesh) cs) id) (radios.find_copy cs id) (find_shown mesh cs id)
 
 -- the copy of the world, by that of the radio
 found : (mesh : Nodes) (w : World) (cs : List Flying) (id : ℕ) → map (copy_in mesh) cs ≡ w.flying → worlds.find_copy w.flying id ≡ option_map (copy_in mesh) (radios.find_copy cs id)

@@ -22,7 +22,7 @@ use Rattle.mesh_text.specs.Auto.{EventsOutcome, Ended, Full as EventsFull, befor
 use Rattle.mesh_text.specs.Runs.{events_of_line, events_read, events_of_piece, events_after, events_from, events_of_input, run_state_after, mesh_of_input}
 use Rattle.mesh_text.specs.Text.{pieces_of_input, LineOutcome, On, Refused, Full, outcome_by_events, outcome_of_auto, outcome_of_line, outcome_of_read, outcome_of_piece, RunText, goes_on, text_from, text_of_input}
 use Rattle.mesh_text.proofs.RunStates.{IsKept, IsKeptCame, opening_kept, piece_kept}
-use Rattle.mesh_text.proofs.RunLaws.{NotFull, base, follows}
+use Rattle.mesh_text.proofs.RunLaws.{NotFull, base, follows, made_base}
 use Rattle.mesh_text.proofs.RunStateLaws.{mesh_after_events}
 use Rattle.mesh_blocks.specs.declared.below.Below.{Below}
 use Rattle.mesh_blocks.specs.declared.below.Below.TheVariants.{Blocks, Changes}
@@ -310,10 +310,6 @@ record RunCame (form : Below) (c : RunState) (es : List Event) (w v : RunText) :
   split : es ≡ done ++ rest
   all : NotFull w.verdict → rest ≡ []
   blocks : IsWithBlocks form c done w.lines v.lines
-
-made_base : (o : Option World) (v w : World) → is_some o ≡ true → unwrap_or o v ≡ unwrap_or o w
-made_base None v w made = absurd (let P : ⊥ = cc in P)
-made_base (Some x) v w made = refl
 
 still_goes : (form : Below) (m n k c : RunState) (es more : List Event) (s t : List ℕ) (w : RunText) (h : RunState → RunText) → k ≡ n → Still m n es s t → Tracks w.after.mesh m c
     → (Tracks w.after.mesh n c → RunCame form c more w (h n)) → RunCame form c (es ++ more) (shell.lines_before s w) (shell.lines_before t (h k))

@@ -6,13 +6,14 @@ use Rattle.std.proofs.Math.Seq.{take_all}
 use Rattle.std.proofs.lemmas.Bool.Decides.{nat_tests}
 use Rattle.mesh_base.specs.Parts.{parts}
 use Rattle.mesh_base.proofs.WrittenForms.{parts_at, parts_none}
+use Rattle.mesh_base.proofs.Lemmas.Lists.{some_parts}
 use Rattle.mesh_grammar.specs.Written.{line}
 use Rattle.mesh_io.specs.declared.limits.Limits.{Limits}
 use Rattle.mesh_io.specs.NextLines.{text_limits}
-use Rattle.mesh_io.proofs.FirstParts.{some_parts}
 use Rattle.mesh_shell.specs.Laws.{AreWhole}
-use Rattle.mesh_shell.specs.Pieces.{Piece, Whole, Long, Beyond, piece_of, last_piece, pieces_of, pieces_within}
+use Rattle.mesh_shell.specs.Pieces.{Piece, Whole, Long, piece_of, pieces_of, pieces_within}
 use Rattle.mesh_shell.specs.Fold.{RunText, whole, text_from, text_on, goes_on}
+use Rattle.mesh_shell.proofs.Joined.{no_more}
 use Rattle.mesh_text.proofs.Clean.{is_clean, lacks_lf}
 use Rattle.mesh_capture.specs.declared.frame.Frame.{Frame}
 use Rattle.mesh_capture.specs.declared.status.CaptureVerdict.{CaptureVerdict}
@@ -22,27 +23,6 @@ use Rattle.mesh_capture.specs.Copies.{Reading, LineOutcome, nothing_read}
 use Rattle.mesh_capture.specs.Frames.{record_of, file_header}
 use Rattle.mesh_capture.specs.Runs.{file_of}
 use Rattle.mesh_capture.proofs.Told.{AreTaken, IsTold, frames_in}
-
--- ---- a text that goes past its limit has a last piece that says so
-
-more_past : (most : Limits) (l : List ℕ) → 1 ≤ length l → AreWhole (last_piece most true l) → ⊥
-more_past most [] some whole = whole
-more_past most (b ∷ bs) some whole = by_test (leb (length (b ∷ bs)) most.line) whole
-  where
-    by_test : (t : Bool) → AreWhole (cond t Beyond (cond t (Whole (b ∷ bs)) Long) ∷ []) → ⊥
-    by_test true whole = whole
-    by_test false whole = whole
-
-no_more : (most : Limits) (ls : List (List ℕ)) → 1 ≤ length ls → AreWhole (pieces_of most true ls) → ⊥
-unfolding pieces_of
-no_more most [] some whole = absurd (omega arith)
-no_more most ([] ∷ []) some whole = whole
-no_more most ((b ∷ bs) ∷ []) some whole = more_past most (b ∷ bs) (omega arith) whole
-no_more most (l ∷ m ∷ ls) some whole = by_test (no_more most (m ∷ ls) (omega arith)) (leb (length l) most.line) whole
-  where
-    by_test : (AreWhole (pieces_of most true (m ∷ ls)) → ⊥) → (t : Bool) → AreWhole (cond t (Whole l) Long ∷ pieces_of most true (m ∷ ls)) → ⊥
-    by_test others true whole = others whole
-    by_test others false whole = whole
 
 -- ---- lines
 
@@ -79,7 +59,7 @@ text_pieces : (most : Limits) (text : List ℕ) (lines : List (List ℕ)) → te
 text_pieces most text lines same clean whole = by_test (nat_lt most.input (length text)) refl whole
   where
     by_test : (b : Bool) → nat_lt most.input (length text) ≡ b → AreWhole (pieces_of most b (parts 10 (take most.input text))) → pieces_of most b (parts 10 (take most.input text)) ≡ pieces_are lines
-    by_test true long whole = absurd (no_more most (parts 10 (take most.input text)) (some_parts (take most.input text)) whole)
+    by_test true long whole = absurd (no_more most (parts 10 (take most.input text)) (some_parts 10 (take most.input text)) whole)
     by_test false short whole =
         let all : take most.input text ≡ text = take_all most.input text (grind (arith, nat_tests)) in
         let cut : parts 10 (take most.input text) ≡ lines ++ [] ∷ [] = ap (parts 10) (all ∙ same) ∙ lines_cut lines clean in
@@ -90,7 +70,7 @@ pub text_short : (most : Limits) (text : List ℕ) → AreWhole (pieces_within m
 text_short most text whole = by_test (nat_lt most.input (length text)) refl whole
   where
     by_test : (b : Bool) → nat_lt most.input (length text) ≡ b → AreWhole (pieces_of most b (parts 10 (take most.input text))) → length text ≤ most.input
-    by_test true long whole = absurd (no_more most (parts 10 (take most.input text)) (some_parts (take most.input text)) whole)
+    by_test true long whole = absurd (no_more most (parts 10 (take most.input text)) (some_parts 10 (take most.input text)) whole)
     by_test false short whole = grind (arith, nat_tests)
 
 -- ---- the file

@@ -1,8 +1,8 @@
 -- Where no datum of a world passes a test, none does that a node takes or sends, or that a copy has.
-use Rattle.std.proofs.Common.{◌≡◌, ℕ, zero, suc, ◌+◌, ◌<◌, inl, inr, Bool, true, false, eqb, cond, ◌&&◌, List, [], ◌∷◌, Some, length, refl, sym, ap, ◌∙◌, arith}
+use Rattle.std.proofs.Common.{◌≡◌, ℕ, zero, suc, ◌+◌, ◌<◌, inl, inr, Bool, true, false, eqb, cond, List, [], ◌∷◌, Some, length, sym, ap, ◌∙◌, arith}
 use Rattle.std.specs.Prelude.{slice_get}
 use Rattle.std.specs.FinMap as maps
-use Rattle.std.proofs.lemmas.Bool.{cases_eq}
+use Rattle.std.proofs.lemmas.Bool.{cases_eq, and_parts}
 use Rattle.std.proofs.lemmas.Option.{same_Some, none-some, slice_get_within}
 use Rattle.aodv_model.specs.Cores.{Body, bodies_in, has_data}
 use Rattle.aodv_model.specs.Handlers.{first_body, may_send}
@@ -33,10 +33,6 @@ found_each f (d ∷ ds) id c none is = by_test (found_each f ds id c (omega arit
     by_test others true is = let first : f d ≡ 0 = omega arith in sym (ap f (same_Some d c is)) ∙ first
     by_test others false is = others is
 
-both : (a b : Bool) → (a && b) ≡ true → a ≡ true
-both true b e = refl
-both false b e = absurd (let P : ⊥ = cc in P)
-
 module _ (t : Test) (w : World) (none : waiting t w + queued_data t w + in_flight t w ≡ 0) where
   -- what is in a queue
   pub queue_has_none : (x : ℕ) (n : Node) → slice_get w.nodes x ≡ Some n → total (in_item t (n.core).ip) n.queue ≡ 0
@@ -50,7 +46,7 @@ module _ (t : Test) (w : World) (none : waiting t w + queued_data t w + in_fligh
   first_is_none x d n is lt may =
       let store = total_each (λ (n : Node). in_store t (length w.nodes) (n.core).ip (n.core).store) w.nodes x n (omega arith) is in
       let bodies = below_each (length w.nodes) (λ (d : ℕ). total (counts t (n.core).ip d) (bodies_in (maps.get (n.core).store d))) d store lt in
-      first_each (counts t (n.core).ip d) (bodies_in (maps.get (n.core).store d)) (both _ _ may) bodies
+      first_each (counts t (n.core).ip d) (bodies_in (maps.get (n.core).store d)) (and_parts _ _ may).0 bodies
 
   -- a copy in flight
   pub copy_has_none : (id : ℕ) (c : Copy) → find_copy w.flying id ≡ Some c → in_copy t c ≡ 0

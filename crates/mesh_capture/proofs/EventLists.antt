@@ -12,6 +12,7 @@ use Rattle.mesh_text.specs.Auto as auto
 use Rattle.mesh_text.specs.Effects.{outcome_lines}
 use Rattle.mesh_text.specs.Ranges.{IsEventLine}
 use Rattle.mesh_text.specs.Schedule.{RunState, world_of, outcome_at, next_state}
+use Rattle.mesh_text.proofs.NamedRuns.{Stops}
 use Rattle.mesh_lines.specs.declared.below.Below.{Below}
 use Rattle.mesh_capture.specs.declared.frame.Frame.{Frame}
 use Rattle.mesh_capture.specs.Copies.{Reading}
@@ -20,7 +21,7 @@ use Rattle.mesh_capture.proofs.Effects.{stand}
 use Rattle.mesh_capture.proofs.Events.{IsDone, event_lines_read}
 use Rattle.mesh_capture.proofs.Growth.{event_pays}
 use Rattle.mesh_capture.proofs.LastLines.{MayCast}
-use Rattle.mesh_capture.proofs.Steady.{IsSteady, steady_plain, stepped_steady, Speaks, spoken, Stops, AllSpeak}
+use Rattle.mesh_capture.proofs.Steady.{IsSteady, steady_plain, stepped_steady, Speaks, spoken, AllSpeak}
 use Rattle.mesh_capture.proofs.Told.{IsTold, reading_of, told_none, told_append}
 
 -- what is known in a state, after so many lines

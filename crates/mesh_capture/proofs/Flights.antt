@@ -8,6 +8,7 @@ use Rattle.std.specs.Cmp.{unsigned_tied, nat_cmp_is}
 use Rattle.std.specs.BTreeMap.{insert_entry, is_at}
 use Rattle.std.proofs.lemmas.Bool.{ne_eqb, cases_eq}
 use Rattle.mesh_base.specs.Meshes.{Nodes}
+use Rattle.mesh_base.proofs.Lemmas.Bools.{eqb_turned}
 use Rattle.mesh_model.specs.InMesh.{AreNumbered}
 use Rattle.mesh_model.specs.Worlds.{Copy, find_copy, without}
 use Rattle.mesh_capture.specs.declared.copies.FlyingCopy.{FlyingCopy}
@@ -16,14 +17,8 @@ use Rattle.mesh_capture.proofs.Told.{copy_told, flight_told}
 
 -- ---- numbers
 
-same_either_way : (x y : ℕ) → eqb x y ≡ eqb y x
-same_either_way x y = elim (cases_eq x y) [
-  | inl is ↦ eq-eqb x y is ∙ sym (eq-eqb y x (sym is))
-  | inr other ↦ ne_eqb x y other ∙ sym (ne_eqb y x (λ is. other (sym is)))
-]
-
 at_is : (id k : ℕ) → is_at (nat_cmp id) k ≡ eqb k id
-at_is id k = unsigned_tied id k ∙ same_either_way id k
+at_is id k = unsigned_tied id k ∙ eqb_turned id k
 
 pub numbers_end : (low next : ℕ) (cs : List Copy) → AreNumbered low cs next → low ≤ next
 numbers_end low next [] are = are

@@ -1,5 +1,5 @@
 -- An event makes no more copies than its text has bytes.
-use Rattle.std.proofs.Common.{◌≡◌, ℕ, ◌+◌, ◌≤◌, List, [], ◌∷◌, ◌++◌, codes, Option, Some, None, length, length-append, refl, arith}
+use Rattle.std.proofs.Common.{ℕ, ◌+◌, ◌≤◌, List, [], ◌∷◌, ◌++◌, codes, Option, Some, None, length, length-append, arith}
 use Rattle.std.specs.Prelude.{slice_get}
 use Rattle.aodv_model.proofs.Entries.{if_case}
 use Rattle.aodv_model.specs.Cores.{Core, Item, New, Heard}
@@ -9,7 +9,8 @@ use Rattle.mesh_base.specs.declared.events.Full.{Full as Counter}
 use Rattle.mesh_base.specs.Meshes.{Nodes}
 use Rattle.mesh_grammar.specs.Written.{line, label_number}
 use Rattle.mesh_meaning.specs.Events.{node_of}
-use Rattle.mesh_model.specs.Worlds.{World, Node, Copy, Event, Give, Turn, Send, Ask, Link, Cut, Deliver, Lose, Double, Outcome, Idle, Next, Changed, Taken, Sent, CopyHeard, CopyLost, CopyDoubled, after, step, at_node, at_copy, unless_full, turn_of, send_of, ask_of, done_by, push, with_item, without_copy, with_double, is_parcel, with_link, without_link, are_linked, range, copies, find_copy}
+use Rattle.mesh_model.specs.Worlds.{World, Node, Copy, Event, Give, Turn, Send, Ask, Link, Cut, Deliver, Lose, Double, Outcome, Idle, Next, Changed, Taken, Sent, CopyHeard, CopyLost, CopyDoubled, after, step, at_node, at_copy, unless_full, turn_of, send_of, ask_of, done_by, push, without_copy, with_double, is_parcel, with_link, without_link, are_linked, range, copies, find_copy}
+use Rattle.mesh_model.proofs.Copies.{push_next}
 use Rattle.mesh_text.specs.Effects.{took_text, datum_fate, broken_text, cast_text, copies_text, sent_text, world_effect_text, outcome_text, outcome_lines}
 use Rattle.mesh_text.specs.Lines.{name_of, event_words}
 
@@ -32,14 +33,6 @@ sent_long mesh e cs = let all = length-append (broken_text mesh e.broken ++ cast
 -- an event that came to this
 Pays : Nodes → World → Event → Outcome → Type 0
 Pays mesh w e o = (after w o).next_copy ≤ w.next_copy + length (outcome_text mesh (node_of e) o)
-
-push_numbers : (w : World) (x : ℕ) (item : Item) → (push w x item).next_copy ≡ w.next_copy
-unfolding push
-push_numbers w x item = by_node (slice_get w.nodes x)
-  where
-    by_node : (o : Option Node) → (with_item w x o item).next_copy ≡ w.next_copy
-    by_node None = refl
-    by_node (Some n) = refl
 
 module _ (mesh : Nodes) (w : World) where
   idle_pays : (e : Event) → Pays mesh w e Idle
@@ -93,7 +86,7 @@ module _ (mesh : Nodes) (w : World) where
 
   step_pays : (e : Event) → Pays mesh w e (step w e)
   unfolding Pays step world_effect_text
-  step_pays (Give x d body) = node_pays (Give x d body) (λ core queue. Next (push w x (New body d)) Changed) (slice_get w.nodes x) (λ core queue. let same = push_numbers w x (New body d) in omega arith)
+  step_pays (Give x d body) = node_pays (Give x d body) (λ core queue. Next (push w x (New body d)) Changed) (slice_get w.nodes x) (λ core queue. let same = push_next w x (New body d) in omega arith)
   step_pays (Turn x) = node_pays (Turn x) (turn_of w x) (slice_get w.nodes x) (turn_pays x)
   step_pays (Send x d) = node_pays (Send x d) (send_of w x d) (slice_get w.nodes x) (send_pays x d)
   step_pays (Ask x d) = node_pays (Ask x d) (ask_of w x d) (slice_get w.nodes x) (ask_pays x d)
@@ -101,7 +94,7 @@ module _ (mesh : Nodes) (w : World) where
   step_pays (Cut a b) = if_case (Pays mesh w (Cut a b)) (are_linked w.links a b) (Next (without_link w a b) Changed) Idle (λ _. omega arith) (λ _. idle_pays (Cut a b))
   step_pays (Deliver id) =
       copy_pays (Deliver id) (λ c. Next (push (without_copy w id) c.to (Heard c.from c.message)) (CopyHeard c.from c.to)) (find_copy w.flying id)
-      (λ c. let same = push_numbers (without_copy w id) c.to (Heard c.from c.message) in omega arith)
+      (λ c. let same = push_next (without_copy w id) c.to (Heard c.from c.message) in omega arith)
   step_pays (Lose id) = copy_pays (Lose id) (λ c. Next (without_copy w id) (CopyLost c)) (find_copy w.flying id) (λ c. omega arith)
   step_pays (Double id) =
       copy_pays (Double id) (λ c. Next (with_double w c) (CopyDoubled w.next_copy c.to (is_parcel c.message))) (find_copy w.flying id)

@@ -4,7 +4,7 @@ use Rattle.std.specs.Prelude.{is_some}
 use Rattle.std.specs.List.{list_any}
 use Rattle.std.specs.Fmt.{decimal, digits}
 use Rattle.std.specs.Str.Parse.{digits_value}
-use Rattle.std.proofs.lemmas.Bool.{and_from, ne_eqb}
+use Rattle.std.proofs.lemmas.Bool.{and_from, ne_eqb, or_right, or_left}
 use Rattle.std.proofs.lemmas.Fmt.{digits_decimal}
 use Rattle.std.proofs.lemmas.List.{get_or_default}
 use Rattle.std.proofs.lemmas.List.Elements.{All-append}
@@ -148,14 +148,6 @@ module _ (mesh : Nodes) (is : IsMesh mesh) where
       (ap (λ b. cond b (Some below.Nothing) None) told)
 
 -- ---- a line that is refused
-
-or_left : (a b : Bool) → a ≡ true → (a || b) ≡ true
-or_left true b is = refl
-or_left false b is = absurd (let P : ⊥ = cc in P)
-
-or_right : (a b : Bool) → b ≡ true → (a || b) ≡ true
-or_right true b is = refl
-or_right false b is = is
 
 first_any : (p : List ℕ → Bool) (w : List ℕ) (ws : List (List ℕ)) → p w ≡ true → list_any p (w ∷ ws) ≡ true
 first_any p w ws is = or_left (p w) (list_any p ws) is

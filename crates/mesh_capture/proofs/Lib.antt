@@ -27,7 +27,6 @@ pub mod Spans
 pub mod LastLines
 pub mod Fields
 pub mod FieldRuns
-pub mod Listings
 pub mod NodeTexts
 pub mod ShownNodes
 pub mod PlaceLines

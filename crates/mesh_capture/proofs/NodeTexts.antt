@@ -8,6 +8,7 @@ use Rattle.std.specs.Cmp.{nat_cmp_total}
 use Rattle.std.specs.FinMap as maps
 use Rattle.std.specs.FinSet as sets
 use Rattle.std.proofs.lemmas.Bool.{and_from}
+use Rattle.std.proofs.Math.Bool.{or-true}
 use Rattle.aodv_model.specs.declared.entry.Entry.{Entry}
 use Rattle.aodv_model.specs.declared.entry.Flag.{Flag}
 use Rattle.aodv_model.specs.declared.entry.Flag.TheVariants.{Val, Inv}
@@ -20,6 +21,7 @@ use Rattle.mesh_base.specs.Members.{NodeIds, members_below}
 use Rattle.mesh_base.specs.Meshes.{Nodes, IsMesh}
 use Rattle.mesh_base.specs.Parts.{parts}
 use Rattle.mesh_base.proofs.WrittenForms.{Lacks}
+use Rattle.mesh_base.proofs.Lemmas.Maps.{each_entry}
 use Rattle.mesh_grammar.specs.Commands.{greatest_id}
 use Rattle.mesh_grammar.specs.Forms.{greatest_first}
 use Rattle.mesh_grammar.specs.Written.{line}
@@ -37,7 +39,7 @@ use Rattle.mesh_capture.specs.Copies.{checked_if}
 use Rattle.mesh_capture.proofs.Effects.{stand}
 use Rattle.mesh_capture.proofs.EventLines.{one_is, two_are, number_fits, positive_fits}
 use Rattle.mesh_capture.proofs.Groups.{members_up, either_read, group_lacks}
-use Rattle.mesh_capture.proofs.Listings.{each_entry, each_pair}
+use Rattle.aodv_model.proofs.PairKeys.{each_pair}
 use Rattle.mesh_capture.proofs.Told.{Stand, Reads, reading_of, reads_none, reads_both, reads_effect}
 use Rattle.mesh_capture.proofs.Words.{word_lacks, words_apart, name_lacks, is_name, number_lacks}
 
@@ -55,10 +57,6 @@ pub record IsNodeShown (core : Core) (queue : ℕ) : Type 0 where
   pub entries : (d : ℕ) (e : Entry) → maps.get core.rt d ≡ Some e → IsEntryShown e
   pub waits : (d : ℕ) (w : Waiting) → maps.get core.store d ≡ Some w → length w.bodies ≤ greatest_id
   pub inbox : queue ≤ greatest_id
-
-or_true : (b : Bool) → (b || true) ≡ true
-or_true true = refl
-or_true false = refl
 
 seven_texts : (a b c d e f g : List ℕ) → a ++ b ++ c ++ d ++ e ++ f ++ g ≡ a ++ (b ++ (c ++ (d ++ (e ++ (f ++ g)))))
 seven_texts a b c d e f g = simp append_assoc
@@ -118,7 +116,7 @@ module _ (mesh : Nodes) (is : IsMesh mesh) (cs : List Copy) (n : ℕ) where
   precursors_fit : (s : NodeIds) → fits Precursors (set_text mesh s) ≡ true
   precursors_fit s = elim (either_read mesh is (members_below (length mesh) s) (members_up (length mesh) s)) [
     | inl none ↦ ap (λ xs. fits Precursors (names mesh xs)) none
-    | inr some ↦ ap (λ b. bytes_eq (set_text mesh s) (codes "-") || b) some ∙ or_true (bytes_eq (set_text mesh s) (codes "-"))
+    | inr some ↦ ap (λ b. bytes_eq (set_text mesh s) (codes "-") || b) some ∙ or-true (bytes_eq (set_text mesh s) (codes "-"))
   ]
 
   module _ (d : ℕ) (e : Entry) (shown : IsEntryShown e) where

@@ -1,5 +1,6 @@
 -- The lines of a run that are no events: a node, a choice of events and its end, and those that show something.
-use Rattle.std.proofs.Common.{◌≡◌, ℕ, ◌≤◌, Bool, true, false, cond, ◌&&◌, ◌||◌, List, [], ◌∷◌, ◌++◌, codes, Some, None, refl, ap, ap₂, arith}
+use Rattle.std.proofs.Common.{◌≡◌, ℕ, ◌≤◌, true, cond, ◌&&◌, ◌||◌, List, [], ◌∷◌, ◌++◌, codes, Some, None, refl, ap, ap₂, arith}
+use Rattle.std.proofs.Math.Bool.{and-false}
 use Rattle.std.specs.Prelude.{is_some}
 use Rattle.std.specs.Fmt.{decimal}
 use Rattle.mesh_base.specs.declared.limits.TheConstants.{MOST_EVENTS}
@@ -42,10 +43,6 @@ reads_command : (mesh : Nodes) (a : Stand) (b : Below) (word : List ℕ) (argume
 reads_command mesh a b word arguments lacks fit low clean plain none found =
     reads_other mesh a b (command_text word arguments) word (words_in arguments) clean plain (words_written word lacks arguments fit low) none found
 
-never : (b : Bool) → (b && false) ≡ false
-never true = refl
-never false = refl
-
 module _ (mesh : Nodes) (is : IsMesh mesh) where
   pub auto_reads : (a : Stand) (count : ℕ) → 1 ≤ count → count ≤ MOST_EVENTS → Reads mesh a (line (words_of mesh (Chooses count))) [] (with_below a below.Nothing)
   unfolding words_of command_text words_in HaveNumbers
@@ -57,7 +54,7 @@ module _ (mesh : Nodes) (is : IsMesh mesh) where
   auto_end_reads a did few =
       reads_other mesh a below.Nothing (codes "auto did " ++ decimal did) (codes "auto") (codes "did" ∷ decimal did ∷ []) (decimal_clean did) (λ r. refl)
       (words_apart (codes "auto") (codes "did" ∷ decimal did ∷ []) (word_lacks 32 (codes "auto") refl, (word_lacks 32 (codes "did") refl, (number_lacks 32 did (omega arith) (omega arith), tt)))) refl
-      (ap₂ (λ x y. cond (x || y) (Some below.Nothing) None) (never (fits (Positive MOST_EVENTS) (codes "did"))) (one_is (UpTo MOST_EVENTS) (decimal did) (number_fits MOST_EVENTS did few (omega arith))))
+      (ap₂ (λ x y. cond (x || y) (Some below.Nothing) None) (and-false (fits (Positive MOST_EVENTS) (codes "did"))) (one_is (UpTo MOST_EVENTS) (decimal did) (number_fits MOST_EVENTS did few (omega arith))))
 
   pub node_line_reads : (a : Stand) (address first : ℕ) → IsNewNode mesh address first → Reads mesh a (line (words_of mesh (NewNode address first))) [] (with_below a below.Nothing)
   unfolding words_of command_text words_in HaveNumbers

@@ -21,7 +21,7 @@ use Rattle.mesh_grammar.specs.Forms.{TwoAddresses}
 use Rattle.mesh_grammar.specs.Words.{SpannedAddr, span_at, next_at}
 use Rattle.mesh_grammar.specs.Written.{line, command_text}
 use Rattle.mesh_grammar.proofs.Canonical.{number_is_written, address_is_written}
-use Rattle.mesh_grammar.proofs.Readings.{with_argument_case, if_case}
+use Rattle.mesh_grammar.proofs.Readings.{with_argument_case, if_case, three_texts}
 use Rattle.mesh_grammar.proofs.CommandLines.{words_in, HaveNumbers, words_written}
 use Rattle.mesh_model.specs.InMesh.{IsEvent}
 use Rattle.mesh_model.specs.Worlds.{Copy, Event, Give, Turn, Send, Ask, Link, Cut, Deliver, Lose, Double}
@@ -64,9 +64,6 @@ pub record IsPlaceLine (mesh : Nodes) (bytes : List ℕ) (new : Placing) : Type 
   pub within : new.node < length mesh
   pub east : new.place.x ≤ GREATEST_PLACE
   pub north : new.place.y ≤ GREATEST_PLACE
-
-joined : (w a x y : List ℕ) → w ++ 32 ∷ (a ++ 32 ∷ (x ++ 32 ∷ y)) ≡ w ++ 32 ∷ a ++ 32 ∷ x ++ 32 ∷ y
-joined w a x y = simp append_assoc
 
 module _ (most : ℕ) (mesh : Nodes) where
   -- such a line, or a fault about bytes of it
@@ -129,7 +126,7 @@ module _ (most : ℕ) (mesh : Nodes) where
   with_command : (first : Bool) (w : List ℕ) (ws : List (List ℕ)) (r : Result (Option Placing) LineFault) → w ≡ command_of first → WordsTold first ws r → PlacingTold (join_with_byte 32 (w ∷ ws)) r
   with_command first w ws (Ok (Some new)) word has = record {
     written = ap₂ (λ v vs. join_with_byte 32 (v ∷ vs)) (word ∙ ap command_of (sym has.command)) has.text
-        ∙ joined (command_of new.first) (name_of mesh new.node) (decimal new.place.x) (decimal new.place.y);
+        ∙ three_texts (command_of new.first) (name_of mesh new.node) (decimal new.place.x) (decimal new.place.y);
     within = has.within;
     east = has.east;
     north = has.north;

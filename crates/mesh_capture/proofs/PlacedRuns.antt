@@ -1,5 +1,5 @@
 -- The text of a run with places is read to its last line.
-use Rattle.std.proofs.Common.{◌≡◌, inl, inr, ℕ, ◌+◌, ◌≤◌, Bool, true, false, cond, List, [], ◌∷◌, ◌++◌, codes, Option, Some, None, Result, Ok, Err, length, length-append, is_some, refl, sym, ap, subst, ◌∙◌, arith}
+use Rattle.std.proofs.Common.{◌≡◌, ℕ, ◌+◌, ◌≤◌, Bool, true, false, cond, List, [], ◌∷◌, ◌++◌, codes, Option, Some, None, Result, Ok, Err, length, length-append, refl, sym, ap, subst, ◌∙◌, arith}
 use Rattle.std.specs.List.{AllByRecursion, flat_map}
 use Rattle.aodv_model.proofs.Entries.{if_case}
 use Rattle.mesh_base.specs.declared.limits.TheConstants.{LONGEST_LINE}
@@ -18,16 +18,14 @@ use Rattle.mesh_text.specs.Runs.{events_after, run_state_after}
 use Rattle.mesh_text.specs.Schedule as schedule
 use Rattle.mesh_text.specs.Schedule.{AcceptedLine, line_of, world_of, next_state, with_line_read}
 use Rattle.mesh_text.specs.Text as text
-use Rattle.mesh_text.specs.Text.{LineOutcome, On, Refused, Full, outcome_of_read, pieces_of_input}
-use Rattle.mesh_text.proofs.RunStateLaws.{world_after_events, mesh_after_events, count_after_events}
+use Rattle.mesh_text.specs.Text.{LineOutcome, On, outcome_of_read, pieces_of_input}
 use Rattle.mesh_text.proofs.RunStates.{IsKept, IsKeptCame, opening_kept}
-use Rattle.mesh_text.proofs.RunLaws.{GoesBy, result_goes}
 use Rattle.mesh_grid.specs.declared.line.Placing.{Placing}
 use Rattle.mesh_grid.specs.Links.{may_come}
 use Rattle.mesh_grid.specs.Lines.{placing_of}
 use Rattle.mesh_grid.specs.Runs.{events_by, events_of_piece, events_of_placing, events_from, events_of_input, mesh_of_input}
-use Rattle.mesh_grid.specs.Text.{RunState, opening, has_begun, changes, change_line, other_line, outcome_by, outcome_of_placing, outcome_of_piece, next, RunText, goes_on, text_from, text_of_input}
-use Rattle.mesh_grid.proofs.PlaceRuns.{other_allowed, piece_kept, run_in, run_follows}
+use Rattle.mesh_grid.specs.Text.{RunState, opening, has_begun, changes, change_line, other_line, outcome_by, outcome_of_placing, outcome_of_piece, next, goes_on, text_from, text_of_input}
+use Rattle.mesh_grid.proofs.PlaceRuns.{other_allowed, piece_kept, run_in, run_follows, piece_leads, goes_in}
 use Rattle.mesh_lines.specs.declared.below.Below.{Below}
 use Rattle.mesh_lines.specs.declared.below.Below.TheVariants as below
 use Rattle.mesh_capture.specs.Laws.{RunWithPlacesIsCaptured}
@@ -181,57 +179,7 @@ placed_piece_told reach k m (Whole bytes) short is =
 placed_piece_told reach k m Long short is = tt
 placed_piece_told reach k m Beyond short is = tt
 
--- ---- where a line leads
-
-after_variant : (m : schedule.RunState) (es : List Event) → (run_state_after m es).variant ≡ m.variant
-unfolding run_state_after next_state
-after_variant m [] = refl
-after_variant m (e ∷ es) = after_variant (next_state m e) es
-
-after_made : (m : schedule.RunState) (es : List Event) → is_some m.world ≡ true → is_some (run_state_after m es).world ≡ true
-unfolding run_state_after next_state
-after_made m [] made = made
-after_made m (e ∷ es) made = after_made (next_state m e) es refl
-
-events_go : (m : schedule.RunState) (es : List Event) (text : List ℕ) → GoesBy m es (On text (with_line_read (run_state_after m es)))
-unfolding GoesBy run_state_after next_state
-events_go m [] text = inl (record { variant = refl; mesh = λ _. refl; world = refl; none = refl; count = refl })
-events_go m (e ∷ es) text = inr (record {
-  variant = after_variant m (e ∷ es);
-  mesh = mesh_after_events m (e ∷ es);
-  made = after_made (next_state m e) es refl;
-  world = world_after_events m (e ∷ es);
-  count = count_after_events m (e ∷ es);
-})
-
-placing_goes : (reach : ℕ) (m : RunState) (bytes : List ℕ) (new : Placing) → GoesBy m.run (events_of_placing reach m new) (outcome_of_placing reach m bytes new)
-unfolding GoesBy run_state_after
-placing_goes reach m bytes new = by (may_come m.places new)
-  where
-    by : (may : Bool) → GoesBy m.run (cond may (changes reach m new) [])
-        (cond may (On (line bytes ++ flat_map (change_line m.run.mesh) (changes reach m new)) (with_line_read (run_state_after m.run (changes reach m new))))
-        (On (line bytes ++ line (codes "  idle")) (with_line_read m.run)))
-    by true = events_go m.run (changes reach m new) (line bytes ++ flat_map (change_line m.run.mesh) (changes reach m new))
-    by false = events_go m.run [] (line bytes ++ line (codes "  idle"))
-
-placed_goes : (reach : ℕ) (m : RunState) (bytes : List ℕ) (r : Result (Option Placing) LineFault) → IsKept m.run → GoesBy m.run (events_by reach m bytes r) (outcome_by reach m bytes r)
-unfolding GoesBy
-placed_goes reach m bytes (Ok (Some new)) is = placing_goes reach m bytes new
-placed_goes reach m bytes (Ok None) is = result_goes m.run (other_line m bytes) (other_allowed m bytes is)
-placed_goes reach m bytes (Err f) is = refl
-
-piece_goes : (reach : ℕ) (m : RunState) (piece : Piece) → IsKept m.run → GoesBy m.run (events_of_piece reach m piece) (outcome_of_piece reach m piece)
-unfolding GoesBy outcome_of_piece text.outcome_of_piece events_of_piece
-piece_goes reach m (Whole bytes) is = placed_goes reach m bytes (placing_of m.run.mesh bytes) is
-piece_goes reach m Long is = refl
-piece_goes reach m Beyond is = refl
-
 -- ---- all lines
-
-goes_in : (m : RunState) (piece : Piece) (o : LineOutcome) (others : RunState → RunText) → text.goes_on m.run o (λ n. run_in (others (next m piece n))) ≡ run_in (goes_on m piece o others)
-goes_in m piece (On text n) others = refl
-goes_in m piece (Refused why) others = refl
-goes_in m piece (Full text n e field) others = refl
 
 placed_run_told : (reach : ℕ) (mesh : Nodes) (k : ℕ) (m : RunState) (b : Below) (pieces : List Piece) → AllByRecursion IsShort pieces → m.run.lines + length pieces ≤ greatest_id → IsSteady k m.run
     → (text_from reach m pieces).after.run.mesh ≡ mesh → k + length (whole (text_from reach m pieces)) ≤ LONGEST_TEXT → TextTold mesh m.run b (whole (text_from reach m pieces)) (events_from reach m pieces)
@@ -244,7 +192,7 @@ placed_run_told reach mesh k m b (piece ∷ pieces) short few is here fits =
     let more : schedule.RunState → List Event = λ n. events_from reach (next m piece n) pieces in
     let same : text.goes_on m.run o others ≡ run_in (goes_on m piece o (λ n. text_from reach n pieces)) = goes_in m piece o (λ n. text_from reach n pieces) in
     subst (λ (w : text.RunText). TextTold mesh m.run b (whole w) (es ++ events_after o more)) same
-    (then_told mesh k m.run b es o others more (omega arith) (piece_goes reach m piece is.kept) (piece_kept reach m piece is.kept) (placed_piece_told reach k m piece short.0 is)
+    (then_told mesh k m.run b es o others more (omega arith) (piece_leads reach m piece is.kept).goes (piece_kept reach m piece is.kept) (placed_piece_told reach k m piece short.0 is)
     (λ n kept made. (run_follows reach (next m piece n) pieces kept).mesh made)
     (λ j n c lines steady there room. placed_run_told reach mesh j (next m piece n) c pieces short.1 (omega arith) steady there room)
     (ap (λ (w : text.RunText). w.after.mesh) same ∙ here)

@@ -1,35 +1,31 @@
 -- The lines of a run: each line of its text is read.
-use Rattle.std.proofs.Common.{◌≡◌, ℕ, zero, suc, ◌+◌, ◌<◌, ◌≤◌, List, [], ◌∷◌, ◌++◌, Option, Some, None, length, length-append, get_or, is_some, refl, sym, ap, ◌∙◌, subst, arith, append-nil}
+use Rattle.std.proofs.Common.{◌≡◌, ℕ, ◌+◌, ◌<◌, ◌≤◌, List, [], ◌∷◌, ◌++◌, None, length, length-append, is_some, refl, sym, ap, ◌∙◌, subst, arith, append-nil}
 use Rattle.std.specs.Prelude.{slice_get}
 use Rattle.std.specs.Option.{unwrap_or}
 use Rattle.std.specs.List.{AllByRecursion}
-use Rattle.std.proofs.lemmas.List.{get_or_default}
-use Rattle.std.proofs.lemmas.List.Elements.{recursion_from_All}
-use Rattle.aodv_model.specs.Fullness.{greatest}
 use Rattle.mesh_base.specs.declared.limits.TheConstants.{MOST_EVENTS}
-use Rattle.mesh_base.specs.Meshes.{Nodes, IsMesh, first_at, with_node}
+use Rattle.mesh_base.specs.Meshes.{Nodes, with_node}
 use Rattle.mesh_grammar.specs.Written.{line}
 use Rattle.mesh_io.specs.declared.limits.TheConstants.{LONGEST_TEXT}
 use Rattle.mesh_model.specs.Accounts.{total, in_copy, waiting, queued_data, in_flight}
-use Rattle.mesh_model.specs.Choices.{pick}
 use Rattle.mesh_model.specs.InMesh.{IsCopyInMesh}
 use Rattle.mesh_model.specs.Routes.{End, Arrived, Stuck, IsRouteEnd, route_end}
-use Rattle.mesh_model.specs.Worlds as worlds
-use Rattle.mesh_model.specs.Worlds.{World, Event, Outcome, Idle, Next, start, first_numbers, run}
+use Rattle.mesh_model.specs.Worlds.{World, Event, start, first_numbers, run}
 use Rattle.mesh_model.proofs.AccountSteps.{start_empty}
 use Rattle.mesh_model.proofs.Honest.{start_trails}
-use Rattle.mesh_model.proofs.NumberSteps.{IsWithin, start_within}
+use Rattle.mesh_model.proofs.NumberSteps.{IsWithin, start_within, firsts_within}
 use Rattle.mesh_model.specs.Trails.{HasWalks}
 use Rattle.mesh_model.proofs.RouteEnds.{route_ends}
 use Rattle.mesh_text.specs.Auto as auto
-use Rattle.mesh_text.specs.Auto.{event_then, choice_then, events_chosen}
+use Rattle.mesh_text.specs.Auto.{events_chosen}
 use Rattle.mesh_text.specs.Lines.{words_of}
 use Rattle.mesh_text.specs.Ranges.{IsInRange, IsInTime}
 use Rattle.mesh_text.specs.Runs.{events_of_line}
-use Rattle.mesh_text.specs.Schedule.{RunState, AcceptedLine, Nothing, NewNode, Does, Chooses, ShowsNode, ShowsRoute, ShowsFlight, world_of, with_world, with_line_read, outcome_at, next_state}
+use Rattle.mesh_text.specs.Schedule.{RunState, AcceptedLine, Nothing, NewNode, Does, Chooses, ShowsNode, ShowsRoute, ShowsFlight, world_of, with_world, with_line_read}
 use Rattle.mesh_text.specs.Tables.{end_text, flight_text, node_text_in}
 use Rattle.mesh_text.specs.Text.{LineOutcome, On, Refused, Full, outcome_by_events, outcome_of_auto, outcome_of_line}
 use Rattle.mesh_text.proofs.RunStates.{IsKept, IsKeptCame, counted_kept, started_kept, not_made}
+use Rattle.mesh_text.proofs.LineLaws.{chosen_few}
 use Rattle.mesh_lines.specs.declared.below.Below.{Below}
 use Rattle.mesh_lines.specs.declared.below.Below.TheVariants as below
 use Rattle.mesh_capture.specs.Runs.{frames_from}
@@ -104,37 +100,11 @@ by_choice k m count es (auto.Full others n e field) some few less is told =
       rest.4,
     )
 
--- there are no more events than were to be chosen
-then_few : (m : RunState) (e : Event) (o : Outcome) (others : RunState → List Event) (most : ℕ) → length (others (next_state m e)) ≤ most → length (event_then m e o others) ≤ suc most
-then_few m e Idle others most few = omega arith
-then_few m e (worlds.Full x f) others most few = omega arith
-then_few m e (Next v h) others most few = omega arith
-
-choice_few : (m : RunState) (o : Option Event) (others : RunState → List Event) (most : ℕ) → ((n : RunState) → length (others n) ≤ most) → length (choice_then m o others) ≤ suc most
-choice_few m None others most few = omega arith
-choice_few m (Some e) others most few = then_few m e (outcome_at m e) others most (few (next_state m e))
-
-pub chosen_few : (most : ℕ) (m : RunState) → length (events_chosen most m) ≤ most
-unfolding events_chosen
-chosen_few zero m = omega arith
-chosen_few (suc most) m = choice_few m (pick (world_of m)) (λ n. events_chosen most n) most (λ n. chosen_few most n)
-
 -- ---- one more node
 
 no_flight : (mesh : Nodes) (m : RunState) → m.world ≡ None → flight_told mesh (world_of m).flying ≡ []
 unfolding flight_told start
 no_flight mesh m fresh = ap (λ o. flight_told mesh (unwrap_or o (start m.variant (first_numbers m.mesh))).flying) fresh
-
--- the first number of each node is within its field
-all_within : (mesh : Nodes) → IsMesh mesh → AllByRecursion (λ n. (1 ≤ n) × (n ≤ greatest)) (first_numbers mesh)
-all_within mesh is = through mesh (recursion_from_All (λ p. (1 ≤ p.1) × (p.1 ≤ greatest)) mesh (λ k d lt. same mesh k d lt (is.positive k lt, omega (arith, is.firsts k lt))))
-  where
-    same : (mesh : Nodes) (k : ℕ) (d : ℕ × ℕ) → k < length mesh → (1 ≤ first_at mesh k) × (first_at mesh k ≤ greatest) → (1 ≤ (get_or mesh k d).1) × ((get_or mesh k d).1 ≤ greatest)
-    same mesh k d lt one = rw (get_or_default mesh k d (0, 0) lt) one
-
-    through : (mesh : Nodes) → AllByRecursion (λ p. (1 ≤ p.1) × (p.1 ≤ greatest)) mesh → AllByRecursion (λ n. (1 ≤ n) × (n ≤ greatest)) (first_numbers mesh)
-    through [] all = tt
-    through (p ∷ ps) all = (all.0, through ps all.1)
 
 in_all : World → ℕ
 in_all w = waiting strange w + queued_data strange w + in_flight strange w
@@ -152,7 +122,7 @@ fresh_steady k m fresh kept events =
       copies = omega arith;
       events = events;
       walks = subst (HasWalks m.variant) (sym same) (start_trails m.variant firsts);
-      within = subst IsWithin (sym same) (start_within m.variant firsts (all_within m.mesh kept.mesh));
+      within = subst IsWithin (sym same) (start_within m.variant firsts (firsts_within m.mesh kept.mesh));
       fits = subst (AreFitting m.sums.events) (sym same) (start_fits m.sums.events m.variant firsts);
     }
 

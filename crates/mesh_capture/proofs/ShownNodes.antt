@@ -4,10 +4,11 @@ use Rattle.std.specs.Prelude.{slice_get}
 use Rattle.std.specs.FinMap as maps
 use Rattle.std.proofs.lemmas.Bool.{cases_eq}
 use Rattle.std.proofs.lemmas.Option.{same_Some, slice_get_within}
-use Rattle.aodv_model.specs.Cores.{Body, Waiting, bodies_in}
+use Rattle.aodv_model.specs.Cores.{Waiting, bodies_in}
 use Rattle.mesh_io.specs.declared.limits.TheConstants.{LONGEST_TEXT}
 use Rattle.mesh_model.specs.Accounts.{any, total, total_below, counts, in_store, waiting}
 use Rattle.mesh_model.specs.Worlds.{World, Node}
+use Rattle.mesh_model.proofs.Totals.{all_count}
 use Rattle.mesh_text.specs.Schedule.{RunState, world_of}
 use Rattle.mesh_text.specs.Tables.{node_text_in}
 use Rattle.mesh_lines.specs.declared.below.Below.TheVariants as below
@@ -29,10 +30,6 @@ below_part (suc n) f d lt = elim (cases_eq d n) [
   | inl same ↦ let here : f d ≡ f n = ap f same in omega arith
   | inr other ↦ let later = below_part n f d (omega arith) in omega arith
 ]
-
-all_count : (o d : ℕ) (bodies : List Body) → total (counts any o d) bodies ≡ length bodies
-all_count o d [] = refl
-all_count o d (b ∷ bs) = let later = all_count o d bs in omega arith
 
 -- what waits for one destination at a node is no more than all that waits
 waiting_part : (w : World) (x d : ℕ) (n : Node) (waits : Waiting) → slice_get w.nodes x ≡ Some n → d < length w.nodes → maps.get (n.core).store d ≡ Some waits → length waits.bodies ≤ waiting any w

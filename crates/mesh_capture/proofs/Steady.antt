@@ -22,6 +22,7 @@ use Rattle.mesh_text.specs.Effects.{outcome_lines}
 use Rattle.mesh_text.specs.Ranges.{IsEventLine}
 use Rattle.mesh_text.specs.Schedule.{RunState, world_of, outcome_at, next_state}
 use Rattle.mesh_text.proofs.RunStates.{IsKept, stepped_kept}
+use Rattle.mesh_text.proofs.NamedRuns.{Stops, alone_stops}
 use Rattle.mesh_capture.proofs.Data.{copy_has_none}
 use Rattle.mesh_capture.proofs.Events.{IsPlain}
 use Rattle.mesh_capture.proofs.FieldRuns.{AreFitting, step_fit}
@@ -138,21 +139,9 @@ spoken k m (Deliver id) short is (inr chosen) =
     (chosen.0, chosen.2, (there.0, omega (arith, there.1)))
 spoken k m others short is (inr chosen) = absurd chosen.1
 
--- an event that is refused is the last
-unfoldable pub Stops : Outcome → List Event → Type 0
-Stops Idle es = Unit {0}
-Stops (worlds.Full x f) es = es ≡ []
-Stops (Next w h) es = Unit {0}
-
 unfoldable pub AllSpeak : RunState → List Event → Type 0
 AllSpeak m [] = Unit {0}
 AllSpeak m (e ∷ es) = Speaks m e × Stops (outcome_at m e) es × AllSpeak (next_state m e) es
-
-alone_stops : (o : Outcome) → Stops o []
-unfolding Stops
-alone_stops Idle = tt
-alone_stops (worlds.Full x f) = refl
-alone_stops (Next w h) = tt
 
 pub one_speaks : (m : RunState) (e : Event) → IsEventLine m.mesh e → AllSpeak m (e ∷ [])
 unfolding AllSpeak

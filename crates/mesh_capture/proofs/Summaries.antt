@@ -1,8 +1,9 @@
 -- The last line of a run that has read its whole input is read as a summary.
-use Rattle.std.proofs.Common.{◌≡◌, ℕ, zero, suc, ◌≤◌, Bool, true, false, eqb, cond, not, ◌&&◌, ◌||◌, List, [], ◌∷◌, ◌++◌, codes, Some, None, refl, sym, ap, subst, ◌∙◌, arith, append_assoc, append-nil}
+use Rattle.std.proofs.Common.{◌≡◌, ℕ, zero, suc, ◌≤◌, true, eqb, cond, not, ◌&&◌, ◌||◌, List, [], ◌∷◌, ◌++◌, codes, Some, None, refl, sym, ap, subst, ◌∙◌, arith, append_assoc, append-nil}
 use Rattle.std.specs.List.{AllByRecursion, list_all, join_with_byte}
 use Rattle.std.specs.Fmt.{decimal}
 use Rattle.std.proofs.lemmas.Bool.{and_from, and_parts}
+use Rattle.std.proofs.Math.Bool.{or-true}
 use Rattle.mesh_base.specs.Meshes.{Nodes}
 use Rattle.mesh_base.proofs.WrittenForms.{Lacks}
 use Rattle.mesh_grammar.specs.Commands.{greatest_id}
@@ -84,10 +85,6 @@ words_are s waits queues flies fields ws is rest =
     (counted flies (number ∷ fields) (decimal s.lost ∷ ws) is.flying
     (counted s.lost fields ws is.lost rest)))))))
 
-either : (a : Bool) → (a || true) ≡ true
-either true = refl
-either false = refl
-
 join_clean : (w : List ℕ) (ws : List (List ℕ)) → AllByRecursion (λ l. is_clean l ≡ true) (w ∷ ws) → is_clean (join_with_byte 32 (w ∷ ws)) ≡ true
 join_clean w [] clean = clean.0
 join_clean w (v ∷ ws) clean = clean_append w (32 ∷ join_with_byte 32 (v ∷ ws)) clean.0 (join_clean v ws clean.1)
@@ -148,7 +145,7 @@ summary_by mesh a s waits queues flies (suc c) is le =
     let last : are (Copied ∷ Positive greatest_id ∷ []) more ≡ true = one_is (Positive greatest_id) (decimal (suc c)) (positive_fits greatest_id (suc c) (omega arith) le (omega arith)) in
     subst (λ t. Reads mesh a t [] (with_below a below.Nothing)) (sym (copied_text (decimal s.events) (decimal s.idle) (decimal s.given) (decimal s.delivered) (decimal waits) (decimal queues) (decimal flies) (decimal s.lost) (decimal (suc c))))
     (line_reads mesh a s waits queues flies more is (word_lacks 32 (codes "copied") refl, (number_lacks 32 (suc c) (omega arith) le, tt)) (refl, (decimal_clean (suc c), tt))
-    (ap (λ b. are (counts_and []) ws || b) (words_are s waits queues flies (Copied ∷ Positive greatest_id ∷ []) more is last) ∙ either (are (counts_and []) ws)))
+    (ap (λ b. are (counts_and []) ws || b) (words_are s waits queues flies (Copied ∷ Positive greatest_id ∷ []) more is last) ∙ or-true (are (counts_and []) ws)))
 
 pub summary_reads : (mesh : Nodes) (a : Stand) (s : Sums) (waits queues flies : ℕ) → IsCounted s waits queues flies → Reads mesh a (summary_text s waits queues flies) [] (with_below a below.Nothing)
 unfolding summary_text

@@ -21,6 +21,7 @@ use Rattle.mesh_text.specs.Text.{LineOutcome, On, Refused, Full, outcome_of_line
 use Rattle.mesh_text.proofs.InRange.{Allowed, line_allowed}
 use Rattle.mesh_text.proofs.RunStates.{IsKept, IsKeptCame, opening_kept, piece_kept}
 use Rattle.mesh_text.proofs.RunLaws.{GoesBy, piece_goes, follows}
+use Rattle.mesh_text.proofs.LineLaws.{chosen_few}
 use Rattle.mesh_blocks.specs.declared.below.Below.TheVariants.{Blocks}
 use Rattle.mesh_blocks.specs.Blocks.{changed_by, shown_if, block_below}
 use Rattle.mesh_blocks.specs.Text.{watched_events, watched_line, watched_read, watched_piece, watched_from, watched_of_input}
@@ -31,7 +32,7 @@ use Rattle.mesh_capture.specs.Laws.{WatchedRunIsCaptured}
 use Rattle.mesh_capture.specs.Runs.{frames_from, frames_of_input}
 use Rattle.mesh_capture.proofs.Captured.{captured, text_short}
 use Rattle.mesh_capture.proofs.EventLists.{reading_at, ReadsTo, to_none, to_append, frames_of, RanTold, done_told, same_steady}
-use Rattle.mesh_capture.proofs.RunLines.{LineTold, block_told, by_events, by_choice, chosen_few, fresh_steady, line_told, started_steady}
+use Rattle.mesh_capture.proofs.RunLines.{LineTold, block_told, by_events, by_choice, fresh_steady, line_told, started_steady}
 use Rattle.mesh_capture.proofs.Spans.{fault_near}
 use Rattle.mesh_capture.proofs.Steady.{IsSteady, later_steady, AllSpeak, one_speaks, chosen_speak, stepped_steady}
 use Rattle.mesh_capture.proofs.Told.{flight_told}

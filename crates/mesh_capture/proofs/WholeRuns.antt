@@ -1,5 +1,5 @@
 -- The text of a run is read to its last line.
-use Rattle.std.proofs.Common.{◌≡◌, ◌⊎◌, inl, inr, ℕ, ◌+◌, ◌≤◌, Bool, true, false, eqb, leb, ◌&&◌, take, List, [], ◌∷◌, ◌++◌, Result, Ok, Err, length, length-append, is_some, refl, sym, ap, ap₂, ◌∙◌, subst, arith, append_assoc, append-nil}
+use Rattle.std.proofs.Common.{◌≡◌, ◌⊎◌, inl, inr, ℕ, ◌+◌, ◌≤◌, Bool, true, eqb, leb, ◌&&◌, take, List, [], ◌∷◌, ◌++◌, Result, Ok, Err, length, length-append, is_some, refl, sym, ap, ap₂, ◌∙◌, subst, arith, append_assoc, append-nil}
 use Rattle.std.specs.Prelude.{nat_lt}
 use Rattle.std.specs.List.{AllByRecursion}
 use Rattle.std.specs.Option.{unwrap_or}
@@ -25,6 +25,7 @@ use Rattle.mesh_model.specs.Accounts.{any, waiting, queued_data, in_flight}
 use Rattle.mesh_shell.specs.Pieces.{Piece, Whole, Long, Beyond, piece_of, last_piece, pieces_of}
 use Rattle.mesh_shell.specs.Fold as shell
 use Rattle.mesh_shell.specs.Fold.{whole}
+use Rattle.mesh_shell.proofs.Pieces.{last_few}
 use Rattle.mesh_text.specs.Lines.{done_line, full_line}
 use Rattle.mesh_text.specs.Runs.{events_read, events_of_piece, events_after, events_from, events_of_input, mesh_of_input}
 use Rattle.mesh_text.specs.Schedule.{RunState, opening, AcceptedLine, line_of, world_of}
@@ -232,11 +233,6 @@ short_is others short = tt
 one_short : (most : Limits) (l : List ℕ) → IsShortOf most (piece_of most l)
 one_short most l = if_case (IsShortOf most) (leb (length l) most.line) (Whole l) Long (λ le. leb-true (length l) most.line le) (λ _. tt)
 
-few_last : (most : Limits) (more : Bool) (l : List ℕ) → length (last_piece most more l) ≤ 1
-few_last most true [] = omega arith
-few_last most false [] = omega arith
-few_last most more (b ∷ bs) = omega arith
-
 last_short : (most : Limits) (more : Bool) (l : List ℕ) → AllByRecursion (IsShortOf most) (last_piece most more l)
 last_short most more [] = if_case (AllByRecursion (IsShortOf most)) more (Beyond ∷ []) [] (λ _. (tt, tt)) (λ _. tt)
 last_short most more (b ∷ bs) = (
@@ -247,7 +243,7 @@ last_short most more (b ∷ bs) = (
 pieces_short : (most : Limits) (more : Bool) (ls : List (List ℕ)) → AllByRecursion (IsShortOf most) (pieces_of most more ls) × (length (pieces_of most more ls) ≤ length ls)
 unfolding pieces_of
 pieces_short most more [] = (tt, omega arith)
-pieces_short most more (l ∷ []) = (last_short most more l, few_last most more l)
+pieces_short most more (l ∷ []) = (last_short most more l, last_few most more l)
 pieces_short most more (l ∷ m ∷ ls) = let rest = pieces_short most more (m ∷ ls) in ((one_short most l, rest.0), omega (arith, rest.1))
 
 pub input_short : (input : List ℕ) → AllByRecursion IsShort (pieces_of_input input) × (length (pieces_of_input input) ≤ LONGEST_INPUT + 1)

@@ -1,9 +1,9 @@
 -- The words of the lines that a run writes, and what each of them is read as.
-use Rattle.std.proofs.Common.{◌≡◌, ℕ, ◌^◌, ◌<◌, ◌≤◌, inl, inr, Bool, true, false, eqb, not, List, [], ◌∷◌, Some, length, refl, ap, ◌∙◌, arith}
+use Rattle.std.proofs.Common.{◌≡◌, ℕ, ◌^◌, ◌<◌, ◌≤◌, inl, inr, true, false, eqb, not, List, [], ◌∷◌, Some, length, ap, ◌∙◌, arith}
 use Rattle.std.specs.Prelude.{is_some}
 use Rattle.std.specs.List.{AllByRecursion, list_all, join_with_byte}
 use Rattle.std.specs.Fmt.{decimal}
-use Rattle.std.proofs.lemmas.Bool.{cases_lt, and_parts}
+use Rattle.std.proofs.lemmas.Bool.{cases_lt, and_parts, not-true}
 use Rattle.std.proofs.lemmas.List.{get_or_past}
 use Rattle.std.proofs.lemmas.List.Elements.{All-from_recursion}
 use Rattle.mesh_base.specs.Addresses.{address_of}
@@ -17,14 +17,10 @@ use Rattle.mesh_lines.specs.Forms.{is_address}
 
 -- ---- texts that lack a byte
 
-not_true : (b : Bool) → not b ≡ true → b ≡ false
-not_true true h = absurd (let P : ⊥ = cc in P)
-not_true false h = refl
-
 each_other : (sep : ℕ) (text : List ℕ) → list_all (λ b. not (eqb b sep)) text ≡ true → AllByRecursion (λ b. eqb b sep ≡ false) text
 each_other sep [] all = tt
 each_other sep (b ∷ bs) all =
-    let both = and_parts (not (eqb b sep)) (list_all (λ c. not (eqb c sep)) bs) all in (not_true (eqb b sep) both.0, each_other sep bs both.1)
+    let both = and_parts (not (eqb b sep)) (list_all (λ c. not (eqb c sep)) bs) all in (not-true (eqb b sep) both.0, each_other sep bs both.1)
 
 pub word_lacks : (sep : ℕ) (text : List ℕ) → list_all (λ b. not (eqb b sep)) text ≡ true → Lacks sep text
 word_lacks sep text all = All-from_recursion (λ b. eqb b sep ≡ false) text (each_other sep text all)

@@ -20,6 +20,7 @@ use Rattle.aodv_model.specs.Fullness.{turn_full, send_full, ask_full}
 use Rattle.aodv_model.proofs.Entries.{if_case}
 use Rattle.mesh_model.specs.Worlds as worlds
 use Rattle.mesh_model.specs.Worlds.{is_parcel, World, Node, Copy, Event, Give, Turn, Send, Ask, Link, Cut, Deliver, Lose, Double, range, receivers, copies, copies_to, copies_of, done_by, push, find_copy, Changed, Taken, Sent, CopyHeard, CopyLost, CopyDoubled, Outcome, Idle, Next, unless_full, turn_of, send_of, ask_of, at_node, at_copy, with_link, without_link, without_copy, with_double, step, after, are_linked}
+use Rattle.mesh_model.proofs.Copies.{copies_to_length}
 use Rattle.mesh_meaning.specs.Events.{node_of}
 use Rattle.mesh_meaning.specs.Answers.{cast_in, effect_in, copies_in, outcome_in, IsDoneInMesh}
 use Rattle.mesh_text.specs.Schedule.{RunState, world_of, outcome_at}
@@ -111,10 +112,6 @@ sent_from : (m n : RunState) (e : Event) (effect : EffectGiven) (air : Air) → 
 unfolding FromNext
 sent_from m n e effect air a = subst (FromNext (world_of m)) a.answer.outcome (step_from (world_of m) e)
 
-to_each : (tos : List ℕ) (id from : ℕ) (m : Message) → length (copies_to tos id from m) ≡ length tos
-to_each [] id from m = refl
-to_each (to ∷ tos) id from m = let e = to_each tos (id + 1) from m in omega arith
-
 all_below : (mesh : Nodes) (air : Air) → length mesh ≤ MOST_NODES → AreBelow (length mesh) air.to → member_list air.to ≡ members_below (length mesh) air.to
 all_below mesh air few below = members-size 256 (length mesh) air.to (omega (arith, few)) below
 
@@ -138,7 +135,7 @@ decided_from : (rates : Rates) (unicast : Bool) (tos : List ℕ) (first from nex
 decided_from rates unicast [] first from next m c is = decided_none rates unicast 0 first (first + 0) next (next + 0) c refl
 decided_from rates unicast (to ∷ tos) first from next m c is =
     let same : first ≡ next = is in
-    let many : length (copies_to (to ∷ tos) first from m) ≡ length (to ∷ tos) = to_each (to ∷ tos) first from m in
+    let many : length (copies_to (to ∷ tos) first from m) ≡ length (to ∷ tos) = copies_to_length (to ∷ tos) first from m in
     ap (λ f. decided rates unicast (length (to ∷ tos)) f (f + length (to ∷ tos)) c) same
     ∙ ap (λ k. decided rates unicast k next (next + k) c) (sym many)
 

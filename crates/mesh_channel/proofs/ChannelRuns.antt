@@ -1,9 +1,10 @@
 -- The worlds of a run over a channel are those of the run of its events.
-use Rattle.std.proofs.Common.{◌≡◌, ◌≢◌, inl, inr, ℕ, zero, suc, ◌-◌, ◌<◌, ◌≤◌, Bool, true, false, List, [], ◌∷◌, ◌++◌, Option, Some, None, Result, Ok, Err, length, take, refl, sym, ap, subst, ◌∙◌, arith, is_some}
+use Rattle.std.proofs.Common.{◌≡◌, ◌≢◌, inl, inr, ℕ, ◌-◌, ◌<◌, ◌≤◌, Bool, false, List, [], ◌∷◌, ◌++◌, Option, Some, None, Result, Ok, Err, length, take, refl, sym, ap, subst, ◌∙◌, arith, is_some}
 use Rattle.std.specs.List.{AllByRecursion}
 use Rattle.std.proofs.lemmas.List.{length-map}
 use Rattle.mesh_base.specs.Meshes.{Nodes}
 use Rattle.mesh_base.specs.declared.events.Variant.{Variant}
+use Rattle.mesh_base.proofs.Lemmas.Lists.{each_take}
 use Rattle.mesh_model.specs.Worlds as worlds
 use Rattle.mesh_model.specs.Worlds.{Event, Outcome, Idle, Next, first_numbers}
 use Rattle.mesh_model.specs.InMesh.{IsEvent}
@@ -21,9 +22,9 @@ use Rattle.mesh_text.specs.Runs.{run_state_after, events_after, events_read}
 use Rattle.mesh_text.specs.Text as text
 use Rattle.mesh_text.specs.Text.{pieces_of_input, LineOutcome, On, Refused, Full, outcome_by_events}
 use Rattle.mesh_text.proofs.InRange.{Allowed, line_allowed}
-use Rattle.mesh_text.proofs.RunStates.{IsKept, UsualList, all_positive, opening_kept, stepped_kept, counted_kept, started_kept, IsKeptCame, piece_kept as schedule_kept}
+use Rattle.mesh_text.proofs.RunStates.{IsKept, UsualList, all_positive, opening_kept, counted_kept, started_kept, IsKeptCame, piece_kept as schedule_kept}
 use Rattle.mesh_text.proofs.RunLaws.{NotFull, Follows, follows, GoesBy, result_goes, read_usual, goes_follows}
-use Rattle.mesh_text.proofs.RunStateLaws.{world_after_events, mesh_after_events, count_after_events}
+use Rattle.mesh_text.proofs.RunStateLaws.{world_after_events, mesh_after_events, count_after_events, kept_after_events, variant_after_events, made_after_events}
 use Rattle.mesh_fates.specs.declared.rates.Rates.{Rates}
 use Rattle.mesh_fates.specs.Channels as channels
 use Rattle.mesh_fates.specs.Channels.{Channel}
@@ -37,21 +38,6 @@ use Rattle.mesh_channel.specs.Laws.{WorldsAreOfEvents, RunsOverChannelsAreLoopFr
 use Rattle.mesh_channel.proofs.InMesh.{LeftUsual, none_left, UsualDrawn, usual_chosen, usual_given}
 
 -- ---- events one after another
-
-after_kept : (m : schedule.RunState) (es : List Event) → UsualList (length m.mesh) es → IsKept m → IsKept (run_state_after m es)
-unfolding run_state_after UsualList next_state
-after_kept m [] usual is = is
-after_kept m (e ∷ es) usual is = after_kept (next_state m e) es usual.1 (stepped_kept m e usual.0 is)
-
-after_variant : (m : schedule.RunState) (es : List Event) → (run_state_after m es).variant ≡ m.variant
-unfolding run_state_after next_state
-after_variant m [] = refl
-after_variant m (e ∷ es) = after_variant (next_state m e) es
-
-after_made : (m : schedule.RunState) (es : List Event) → is_some m.world ≡ true → is_some (run_state_after m es).world ≡ true
-unfolding run_state_after next_state
-after_made m [] made = made
-after_made m (e ∷ es) made = after_made (next_state m e) es refl
 
 -- where all were done, the state is the one after them
 unfoldable pub EndsAt : schedule.RunState → auto.EventsOutcome → Type 0
@@ -90,13 +76,13 @@ some_lead m e es (auto.Ended text n) usual is ends =
     let all : List Event = e ∷ es in
     subst (λ k. Leads m all (On text (with_line_read k))) (sym ends) (record {
       goes = inr (record {
-        variant = after_variant (with_world m) all;
+        variant = variant_after_events (with_world m) all;
         mesh = mesh_after_events (with_world m) all;
-        made = after_made (with_world m) all refl;
+        made = made_after_events (with_world m) all refl;
         world = world_after_events (with_world m) all;
         count = count_after_events (with_world m) all;
       });
-      kept = counted_kept (run_state_after (with_world m) all) (after_kept (with_world m) all usual (started_kept m is));
+      kept = counted_kept (run_state_after (with_world m) all) (kept_after_events (with_world m) all usual (started_kept m is));
       usual = usual;
     })
 
@@ -227,11 +213,6 @@ pub runs_over_channels_are_loop_free : RunsOverChannelsAreLoopFree
 runs_over_channels_are_loop_free rates v seed input k d =
     loop_free v (first_numbers (mesh_of_input rates v seed input)) (take k (events_of_input rates v seed input)) d
     (all_positive (mesh_of_input rates v seed input) (input_kept rates v seed input).mesh)
-
-each_take : (P : Event → Type 0) (k : ℕ) (es : List Event) → AllByRecursion P es → AllByRecursion P (take k es)
-each_take P zero es all = tt
-each_take P (suc k) [] all = tt
-each_take P (suc k) (e ∷ es) all = (all.0, each_take P k es all.1)
 
 pub each_datum_is_accounted_for : EachDatumIsAccountedFor
 each_datum_is_accounted_for rates v seed input t k =

@@ -8,16 +8,14 @@ use Rattle.mesh_io.proofs.Writing.{AppendsPrefix-none}
 use Rattle.mesh_model.specs.Worlds as worlds
 use Rattle.mesh_model.specs.Worlds.{World, Event, Give, Turn, Send, Ask, Link, Cut, Deliver, Lose, Double, Outcome, Idle, Next, step}
 use Rattle.mesh_text.specs.Schedule.{RunState, world_of, next_state, outcome_at}
-use Rattle.mesh_text.specs.Effects.{outcome_lines}
-use Rattle.mesh_text.specs.Auto.{EventsOutcome, Ended, Full as EventsFull, done_then, outcome_of_events}
+use Rattle.mesh_text.specs.Auto.{Ended, Full as EventsFull, outcome_of_events}
 use Rattle.mesh_text.specs.Text.{On, Full}
 use Rattle.mesh_run.specs.declared.stop.Stop.{Stop}
 use Rattle.mesh_run.specs.declared.stop.Stop.TheVariants as stop
 use Rattle.mesh_run.specs.Outputs.{says_lines}
 use Rattle.mesh_run.specs.Runs.{output_if, IsLineDone, IsLineStopped, outcome_by, line_outcome_at, IsEventsDone, IsEventsRun, text_of}
 use Rattle.mesh_run.proofs.Events.{stepped_started, stepped_mesh, stepped_lines, stepped_steps}
-use Rattle.mesh_run.proofs.Shown.{shown_none}
-use Rattle.mesh_run.proofs.Chosen.{one_less, on_then, on_stops, full_stops}
+use Rattle.mesh_run.proofs.Chosen.{one_less, then_goes, then_stops, nothing_more}
 use Rattle.mesh_fates.specs.declared.rates.Rates.{Rates}
 use Rattle.mesh_fates.specs.Left.{IsNumbered}
 use Rattle.mesh_fates.specs.Channels.{Channel, after_chosen}
@@ -33,18 +31,6 @@ use Rattle.mesh_channel.proofs.Numbers.{quiet_of_left}
 
 -- ---- one event, and then others
 
-then_goes : (say : Bool) (m n k : RunState) (e : Event) (o : Outcome) (others : RunState → EventsOutcome) (a b c : Option (List ℕ)) (r : Result ℕ Stop)
-    → IsLineDone say (outcome_by m e o) n a b → IsEventsRun say n (others n) k b c r → IsEventsRun say m (done_then m e o others) k a c r
-then_goes say m n k e Idle others a b c r g q = on_then say m n k e (outcome_lines m.mesh e Idle) others a b c r g q
-then_goes say m n k e (worlds.Full x field) others a b c r g q = absurd (let h : Full [] m e field ≡ On g.text n = g.is in let P : ⊥ = cc in P)
-then_goes say m n k e (Next w i) others a b c r g q = on_then say m n k e (outcome_lines m.mesh e (Next w i)) others a b c r g q
-
-then_stops : (say : Bool) (m n : RunState) (e : Event) (o : Outcome) (others : RunState → EventsOutcome) (a b : Option (List ℕ)) (t : Stop)
-    → IsLineStopped say m (outcome_by m e o) n a b t → IsEventsRun say m (done_then m e o others) n a b (Err t)
-then_stops say m n e Idle others a b t g = on_stops say m n (next_state m e) (outcome_lines m.mesh e Idle) (others (next_state m e)) a b t g
-then_stops say m n e (worlds.Full x full) others a b t g = full_stops say m n e full a b t g
-then_stops say m n e (Next w i) others a b t g = on_stops say m n (next_state m e) (outcome_lines m.mesh e (Next w i)) (others (next_state m e)) a b t g
-
 pub list_goes : (say : Bool) (m n k : RunState) (e : Event) (es : List Event) (a b c : Option (List ℕ)) (r : Result ℕ Stop)
     → IsLineDone say (outcome_by m e (outcome_at m e)) n a b → IsEventsRun say n (outcome_of_events n es) k b c r → IsEventsRun say m (outcome_of_events m (e ∷ es)) k a c r
 unfolding outcome_of_events
@@ -54,10 +40,6 @@ pub list_stops : (say : Bool) (m n : RunState) (e : Event) (es : List Event) (a 
     → IsLineStopped say m (outcome_by m e (outcome_at m e)) n a b t → IsEventsRun say m (outcome_of_events m (e ∷ es)) n a b (Err t)
 unfolding outcome_of_events
 list_stops say m n e es a b t g = then_stops say m n e (outcome_at m e) (λ x. outcome_of_events x es) a b t g
-
-pub list_ends : (say : Bool) (m : RunState) (es : List Event) (a : Option (List ℕ)) → es ≡ [] → IsEventsDone say (outcome_of_events m es) m a a
-unfolding outcome_of_events
-list_ends say m es a none = record { text = []; is = ap (outcome_of_events m) none; grown = shown_none say a }
 
 -- memory ran out behind an event
 pub list_breaks : (say : Bool) (m n k : RunState) (e : Event) (es : List Event) (a b : Option (List ℕ)) → IsLineDone say (outcome_by m e (outcome_at m e)) n a b
@@ -174,7 +156,7 @@ chosen_channel say most did rates until m n c k after e o a b h is p g next then
 
 -- the loop ends where nothing is chosen
 pub ended_ran : (say : Bool) (m : RunState) (d : Drawn) (k : Channel) (a : Option (List ℕ)) → d ≡ none k → IsEventsDone say (outcome_of_events m d.events) m a a
-ended_ran say m d k a is = list_ends say m d.events a (ap (λ (x : Drawn). x.events) is)
+ended_ran say m d k a is = nothing_more say m d.events a (ap (λ (x : Drawn). x.events) is)
 
 -- ---- the state of the program
 

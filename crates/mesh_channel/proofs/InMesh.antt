@@ -2,11 +2,11 @@
 use Rattle.std.proofs.Common.{◌≡◌, ℕ, zero, suc, ◌+◌, ◌<◌, Bool, true, false, cond, List, [], ◌∷◌, ◌++◌, Option, Some, None, length, refl, sym, ap, subst, ◌∙◌, arith}
 use Rattle.std.specs.Prelude.{slice_get, nat_le}
 use Rattle.std.specs.List.{AllByRecursion}
-use Rattle.mesh_model.specs.Choices.{least_from, beside, least_pair_from, may_turn_in, may_send_in, may_ask_in, first_turn, first_send_in, first_ask_in, first_send, first_ask}
+use Rattle.mesh_model.specs.Choices.{least_from, least_pair_from, may_turn_in, first_turn, first_send_in, first_ask_in, first_send, first_ask}
 use Rattle.mesh_model.specs.InMesh.{IsEvent}
 use Rattle.mesh_model.specs.Worlds as worlds
-use Rattle.mesh_model.specs.Worlds.{World, Node, Event, Give, Turn, Send, Ask, Link, Cut, Deliver, Lose, Double, Outcome, Idle, Next, WorldEffect, Changed, Taken, Sent, CopyHeard, CopyLost, CopyDoubled}
-use Rattle.mesh_model.proofs.Chosen.{OnSome}
+use Rattle.mesh_model.specs.Worlds.{World, Event, Give, Turn, Send, Ask, Link, Cut, Deliver, Lose, Double, Outcome, Idle, Next, WorldEffect, Changed, Taken, Sent, CopyHeard, CopyLost, CopyDoubled}
+use Rattle.mesh_model.proofs.Chosen.{OnSome, Both, least_within, pair_within, send_within as send_below, ask_within as ask_below}
 use Rattle.mesh_model.proofs.Lists.{each_append}
 use Rattle.mesh_grammar.proofs.Readings.{if_case}
 use Rattle.mesh_text.specs.Schedule as schedule
@@ -104,17 +104,6 @@ given_left rates w (Next v (CopyDoubled id to parcel)) c is = is
 
 -- ---- what is found first is in the mesh
 
-least_within : (k i : ℕ) (passes : ℕ → Bool) → OnSome (λ x. x < i + k) (least_from k i passes)
-unfolding OnSome
-least_within zero i passes = tt
-least_within (suc k) i passes =
-    if_case (OnSome (λ x. x < i + suc k)) (passes i) (Some i) (least_from k (i + 1) passes)
-    (λ _. omega arith) (λ _. less (least_from k (i + 1) passes) (least_within k (i + 1) passes))
-  where
-    less : (o : Option ℕ) → OnSome (λ x. x < i + 1 + k) o → OnSome (λ x. x < i + suc k) o
-    less None h = tt
-    less (Some x) h = omega arith
-
 at_zero : (n : ℕ) (o : Option ℕ) → OnSome (λ x. x < 0 + n) o → OnSome (λ x. x < n) o
 unfolding OnSome
 at_zero n None h = tt
@@ -125,30 +114,6 @@ unfolding OnSome first_turn
 turn_within w x is =
     let o : Option ℕ = least_from (length w.nodes) 0 (λ y. may_turn_in (slice_get w.nodes y)) in
     subst (OnSome (λ y. y < length w.nodes)) is (at_zero (length w.nodes) o (least_within (length w.nodes) 0 (λ y. may_turn_in (slice_get w.nodes y))))
-
-abbrev Both : ℕ → ℕ → ℕ × ℕ → Type 0
-Both m n p = (p.0 < m) × (p.1 < n)
-
-pair_within : (k i size : ℕ) (found : ℕ → Option ℕ) → ((x : ℕ) → OnSome (λ d. d < size) (found x)) → OnSome (Both (i + k) size) (least_pair_from k i found)
-unfolding OnSome
-pair_within zero i size found each = tt
-pair_within (suc k) i size found each = by (found i) (each i) (pair_within k (i + 1) size found each)
-  where
-    more : (o : Option (ℕ × ℕ)) → OnSome (Both (i + 1 + k) size) o → OnSome (Both (i + suc k) size) o
-    more None h = tt
-    more (Some p) h = (omega (arith, h.0), h.1)
-
-    by : (o : Option ℕ) → OnSome (λ d. d < size) o → OnSome (Both (i + 1 + k) size) (least_pair_from k (i + 1) found) → OnSome (Both (i + suc k) size) (beside i o (least_pair_from k (i + 1) found))
-    by None one rest = more (least_pair_from k (i + 1) found) rest
-    by (Some d) one rest = (omega arith, one)
-
-send_below : (size : ℕ) (n : Option Node) → OnSome (λ d. d < size) (first_send_in size n)
-unfolding first_send_in
-send_below size n = at_zero size (least_from size 0 (may_send_in n)) (least_within size 0 (may_send_in n))
-
-ask_below : (size : ℕ) (n : Option Node) → OnSome (λ d. d < size) (first_ask_in size n)
-unfolding first_ask_in
-ask_below size n = at_zero size (least_from size 0 (may_ask_in n)) (least_within size 0 (may_ask_in n))
 
 pair_zero : (n : ℕ) (o : Option (ℕ × ℕ)) → OnSome (Both (0 + n) n) o → OnSome (Both n n) o
 unfolding OnSome

@@ -14,12 +14,13 @@ use Rattle.mesh_model.specs.InMesh.{IsEvent}
 use Rattle.mesh_model.specs.Worlds.{World, Event, start, first_numbers, step, after}
 use Rattle.mesh_text.specs.Schedule as schedule
 use Rattle.mesh_text.specs.Schedule.{AcceptedLine, NewNode, Does, Chooses, ShowsNode, ShowsRoute, ShowsFlight, with_world, with_line_read, world_of, next_state, outcome_at}
-use Rattle.mesh_text.specs.Auto.{EventsOutcome, Ended, Full as EventsFull, outcome_of_events}
+use Rattle.mesh_text.specs.Auto.{EventsOutcome, outcome_of_events}
 use Rattle.mesh_text.specs.Text as text
-use Rattle.mesh_text.specs.Text.{LineOutcome, On, Refused, Full, outcome_by_events, text_in}
+use Rattle.mesh_text.specs.Text.{LineOutcome, On, Refused, Full, outcome_by_events}
 use Rattle.mesh_run.specs.declared.stop.Stop.{Stop}
 use Rattle.mesh_run.specs.declared.stop.Stop.TheVariants as stop
-use Rattle.mesh_run.specs.Runs.{output_if, IsLineDone, IsLineStopped, outcome_by, IsEventsDone, IsEventsRun, text_of}
+use Rattle.mesh_run.specs.Runs.{output_if, IsLineDone, IsLineStopped, outcome_by, IsEventsDone, IsEventsRun}
+use Rattle.mesh_run.proofs.Chosen.{text_by}
 use Rattle.mesh_fates.specs.declared.rates.Rates.{Rates}
 use Rattle.mesh_fates.specs.Channels.{Channel, after_given}
 use Rattle.mesh_channel.specs.declared.until.Until.{Until}
@@ -31,10 +32,6 @@ use Rattle.mesh_channel.proofs.Steps.{step_grows, step_rises}
 use Rattle.mesh_channel.proofs.Doing.{list_goes, list_stops, list_breaks}
 
 -- ---- the line, by its events
-
-text_by : (ran : EventsOutcome) → text_in (outcome_by_events ran) ≡ text_of ran
-text_by (Ended t n) = refl
-text_by (EventsFull t n e field) = refl
 
 pub line_goes : (say : Bool) (ran : EventsOutcome) (n k : schedule.RunState) (a b : Option (List ℕ)) → IsEventsDone say ran n a b → k ≡ with_line_read n → IsLineDone say (outcome_by_events ran) k a b
 line_goes say ran n k a b g next = record { text = g.text; is = ap outcome_by_events g.is ∙ ap (On g.text) (sym next); grown = g.grown }

@@ -1,8 +1,7 @@
 -- A channel that loses and doubles nothing chooses no loss and no doubling.
-use Rattle.std.proofs.Common.{◌≡◌, ◌⊎◌, inl, inr, ℕ, zero, suc, ◌+◌, ◌<◌, ◌≤◌, ◌%◌, Bool, true, false, cond, List, [], ◌∷◌, ◌++◌, Option, Some, None, length, refl, sym, ap, ap₂, subst, ◌∙◌, arith}
+use Rattle.std.proofs.Common.{◌≡◌, ◌⊎◌, inl, inr, ℕ, zero, suc, ◌+◌, ◌<◌, ◌≤◌, Bool, true, false, cond, List, [], ◌∷◌, ◌++◌, Option, Some, None, length, refl, sym, ap, ap₂, subst, ◌∙◌}
 use Rattle.std.specs.Prelude.{nat_le, nat_lt}
 use Rattle.std.specs.List.{AllByRecursion}
-use Rattle.std.proofs.lemmas.Bool.{le-ltb}
 use Rattle.mesh_model.specs.Choices.{first_turn, first_send, first_ask, IsChoice}
 use Rattle.mesh_model.specs.Worlds as worlds
 use Rattle.mesh_model.specs.Worlds.{World, Event, Turn, Send, Ask, Deliver, Lose, Double, Outcome, Idle, Next, WorldEffect, Changed, Taken, Sent, CopyHeard, CopyLost, CopyDoubled}
@@ -19,6 +18,7 @@ use Rattle.mesh_fates.specs.Plans.{Plan}
 use Rattle.mesh_fates.specs.declared.due.Due.{Due}
 use Rattle.mesh_make.specs.Words.{word, after}
 use Rattle.mesh_fates.specs.Channels.{Channel, losses, doublings, number_behind, with_fate, decided, after_world_effect, after_chosen, after_given, is_unicast}
+use Rattle.mesh_fates.proofs.Lawful.{never}
 use Rattle.mesh_channel.specs.Choices.{Choice, Chosen, Nothing, looked_at, by_nodes, ask_or, send_or, due_or, turn_or, left_or, in_tick, next_due, or_next_tick, next_choice, is_enough, last_tick, at_end}
 use Rattle.mesh_channel.specs.declared.until.Until.{Until}
 use Rattle.mesh_channel.specs.declared.until.Until.TheVariants.{Events, Tick}
@@ -26,9 +26,6 @@ use Rattle.mesh_channel.specs.Chosen.{Drawn, given, event_then, choice_then, cho
 use Rattle.mesh_channel.specs.Laws.{IsLossless, LosslessChannelLosesNothing, LosslessChannelAddsNothing}
 
 -- ---- a copy is not lost, and not doubled
-
-never_at : (rate w : ℕ) → rate ≡ 0 → happens_at rate w ≡ false
-never_at rate w is = le-ltb (w % 1000) rate (omega arith)
 
 loss_is : (rates : Rates) (unicast : Bool) → IsLossless rates → loss_of rates unicast ≡ 0
 loss_is rates true is = is.loss_unicast
@@ -47,7 +44,7 @@ draw_lives : (rates : Rates) (unicast : Bool) (rng : Lcg) → IsLossless rates �
 unfolding draw
 draw_lives rates unicast rng is =
     by_lives rates unicast (next_lot rates unicast rng) (happens_at rates.double (word (after (after rng)))) (after (after (after rng)))
-    (never_at (loss_of rates unicast) (word rng) (loss_is rates unicast is)) (never_at rates.double (word (after (after rng))) is.double)
+    (never (loss_of rates unicast) (word rng) (loss_is rates unicast is)) (never rates.double (word (after (after rng))) is.double)
 
 nothing_left : (c : Channel) (id new : ℕ) (f : Fate) → c.left ≡ [] → Lives f → (with_fate c id new f).left ≡ []
 nothing_left c id new f none lives = ap₂ (λ l o. l ++ doublings id new o ++ losses id f.lot) none lives.alone ∙ ap (λ b. cond b (Lose id ∷ []) []) lives.kept

@@ -1,15 +1,11 @@
 -- No event that the channel chooses is idle.
-use Rattle.std.proofs.Common.{◌≡◌, ◌≢◌, ◌⊎◌, inl, inr, ℕ, zero, suc, ◌+◌, Bool, true, false, if◌then◌else◌, List, [], ◌∷◌, length, Option, Some, None, is_some, refl, sym, ap, subst, ◌∙◌, arith}
-use Rattle.std.specs.Prelude.{slice_get, nat_le}
-use Rattle.mesh_base.specs.declared.events.Full.{Full as Counter}
-use Rattle.aodv_model.specs.Cores.{Item}
-use Rattle.aodv_model.specs.Handlers.{send, ask}
-use Rattle.aodv_model.specs.Fullness.{turn_full, send_full, ask_full}
+use Rattle.std.proofs.Common.{◌≡◌, ◌≢◌, ◌⊎◌, inl, inr, ℕ, zero, suc, ◌+◌, Bool, true, false, List, [], ◌∷◌, length, Option, Some, None, is_some, refl, sym, ap, subst, ◌∙◌, arith}
+use Rattle.std.specs.Prelude.{nat_le}
 use Rattle.mesh_grammar.proofs.Readings.{if_case}
-use Rattle.mesh_model.specs.Choices.{waits, may_turn_in, may_send_in, may_ask_in, first_turn, first_send_in, first_ask_in, first_send, first_ask}
-use Rattle.mesh_model.proofs.Picks.{least_passes, least_pair_found}
+use Rattle.mesh_model.specs.Choices.{first_turn, first_send, first_ask}
+use Rattle.mesh_model.proofs.Picks.{enabled_turn, enabled_send, enabled_ask}
 use Rattle.mesh_model.specs.Worlds as worlds
-use Rattle.mesh_model.specs.Worlds.{World, Node, Copy, Event, Turn, Send, Ask, Deliver, WorldEffect, Sent, Outcome, Idle, Next, range, done_by, copies, unless_full, turn_of, send_of, ask_of, at_node, at_copy, find_copy, step, after}
+use Rattle.mesh_model.specs.Worlds.{World, Copy, Event, Deliver, Outcome, Idle, Next, at_copy, find_copy, step, after}
 use Rattle.mesh_text.specs.Schedule as schedule
 use Rattle.mesh_text.specs.Schedule.{world_of, outcome_at, next_state}
 use Rattle.mesh_fates.specs.declared.rates.Rates.{Rates}
@@ -26,42 +22,6 @@ use Rattle.mesh_channel.proofs.Numbers.{quiet_of_left}
 use Rattle.mesh_channel.proofs.Ready.{Flies, Ready, step_casts, after_ready, given_ready}
 
 -- ---- what is found first is enabled
-
-unless_goes : (x : ℕ) (f : Option Counter) (w : World) (h : WorldEffect) → unless_full x f (Next w h) ≢ Idle
-unless_goes x None w h = λ e. cc
-unless_goes x (Some f) w h = λ e. cc
-
-turn_enabled : (w : World) (x : ℕ) (o : Option Node) → may_turn_in o ≡ true → at_node o (turn_of w x) ≢ Idle
-turn_enabled w x None may = λ e. cc
-turn_enabled w x (Some n) may = by_queue n.queue may
-  where
-    by_queue : (items : List Item) → waits items ≡ true → turn_of w x n.core items ≢ Idle
-    by_queue [] may = λ e. cc
-    by_queue (item ∷ items) may = unless_goes x (turn_full n.core (range w x) item) _ _
-
-send_enabled : (w : World) (x d : ℕ) (o : Option Node) → may_send_in o d ≡ true → at_node o (send_of w x d) ≢ Idle
-send_enabled w x d None may = λ e. cc
-send_enabled w x d (Some n) may = subst (λ b. (if b then unless_full x (send_full n.core (range w x) d) (Next (done_by w x (send n.core (range w x) d) n.queue) (Sent (send n.core (range w x) d).effect (copies w x ((send n.core (range w x) d).effect).cast))) else Idle) ≢ Idle) (sym may) (unless_goes x (send_full n.core (range w x) d) _ _)
-
-ask_enabled : (w : World) (x d : ℕ) (o : Option Node) → may_ask_in o d ≡ true → at_node o (ask_of w x d) ≢ Idle
-ask_enabled w x d None may = λ e. cc
-ask_enabled w x d (Some n) may = subst (λ b. (if b then unless_full x (ask_full n.core) (Next (done_by w x (ask n.core d) n.queue) (Sent (ask n.core d).effect (copies w x ((ask n.core d).effect).cast))) else Idle) ≢ Idle) (sym may) (unless_goes x (ask_full n.core) _ _)
-
-enabled_turn : (w : World) (x : ℕ) → first_turn w ≡ Some x → step w (Turn x) ≢ Idle
-unfolding first_turn step
-enabled_turn w x is = turn_enabled w x (slice_get w.nodes x) (least_passes (length w.nodes) 0 x (λ y. may_turn_in (slice_get w.nodes y)) is)
-
-enabled_send : (w : World) (p : ℕ × ℕ) → first_send w ≡ Some p → step w (Send p.0 p.1) ≢ Idle
-unfolding first_send first_send_in step
-enabled_send w p is =
-    let found : first_send_in (length w.nodes) (slice_get w.nodes p.0) ≡ Some p.1 = least_pair_found (length w.nodes) 0 p (λ x. first_send_in (length w.nodes) (slice_get w.nodes x)) is in
-    send_enabled w p.0 p.1 (slice_get w.nodes p.0) (least_passes (length w.nodes) 0 p.1 (may_send_in (slice_get w.nodes p.0)) found)
-
-enabled_ask : (w : World) (p : ℕ × ℕ) → first_ask w ≡ Some p → step w (Ask p.0 p.1) ≢ Idle
-unfolding first_ask first_ask_in step
-enabled_ask w p is =
-    let found : first_ask_in (length w.nodes) (slice_get w.nodes p.0) ≡ Some p.1 = least_pair_found (length w.nodes) 0 p (λ x. first_ask_in (length w.nodes) (slice_get w.nodes x)) is in
-    ask_enabled w p.0 p.1 (slice_get w.nodes p.0) (least_passes (length w.nodes) 0 p.1 (may_ask_in (slice_get w.nodes p.0)) found)
 
 found_goes : (o : Option Copy) (f : Copy → Outcome) → is_some o ≡ true → ((c : Copy) → f c ≢ Idle) → at_copy o f ≢ Idle
 found_goes None f there goes = absurd (let P : ⊥ = cc in P)

@@ -1,5 +1,5 @@
 -- Each event of a run over a channel is one that a line may be.
-use Rattle.std.proofs.Common.{◌≡◌, ◌⊎◌, inl, inr, ℕ, zero, suc, ◌+◌, ◌-◌, ◌*◌, ◌^◌, ◌<◌, ◌≤◌, ◌==◌, Bool, true, false, List, [], ◌∷◌, ◌++◌, length, length-append, Option, Some, None, Result, Ok, Err, is_some, refl, sym, ap, subst, ◌∙◌, arith, take}
+use Rattle.std.proofs.Common.{◌≡◌, ◌⊎◌, inl, inr, ℕ, zero, suc, ◌+◌, ◌-◌, ◌*◌, ◌^◌, ◌<◌, ◌≤◌, ◌==◌, Bool, List, [], ◌∷◌, ◌++◌, length, length-append, Option, Some, None, Result, Ok, Err, is_some, refl, sym, ap, subst, ◌∙◌, arith, take}
 use Rattle.std.specs.List.{AllByRecursion}
 use Rattle.std.proofs.lemmas.List.Splits.{length-slice_split}
 use Rattle.std.proofs.lemmas.List.Sums.{count_by-le-length}
@@ -12,7 +12,8 @@ use Rattle.mesh_grammar.specs.declared.fault.LineFault.{LineFault}
 use Rattle.mesh_model.specs.Worlds as worlds
 use Rattle.mesh_model.specs.Worlds.{World, Event, Outcome, Idle, Next}
 use Rattle.mesh_model.specs.InMesh.{IsEvent}
-use Rattle.mesh_shell.specs.Pieces.{Piece, Whole, Long, Beyond, pieces_of, last_piece}
+use Rattle.mesh_shell.specs.Pieces.{Piece, Whole, Long, Beyond, pieces_of}
+use Rattle.mesh_shell.proofs.Pieces.{last_few}
 use Rattle.mesh_io.specs.declared.limits.Limits.{Limits}
 use Rattle.mesh_text.specs.Auto as auto
 use Rattle.mesh_text.specs.Auto.{outcome_of_events}
@@ -23,6 +24,7 @@ use Rattle.mesh_text.specs.Text as text
 use Rattle.mesh_text.specs.Text.{LineOutcome, On, Refused, Full, outcome_by_events, pieces_of_input}
 use Rattle.mesh_text.proofs.InRange.{Allowed, line_allowed}
 use Rattle.mesh_text.proofs.RunStates.{IsKept, UsualList, started_kept, stepped_kept, opening_kept, IsKeptCame, not_made}
+use Rattle.mesh_text.proofs.RunStateLaws.{steps_after_events}
 use Rattle.mesh_fates.specs.declared.rates.Rates.{Rates}
 use Rattle.mesh_fates.specs.Channels as channels
 use Rattle.mesh_fates.specs.Channels.{Channel, after_given, after_chosen}
@@ -97,11 +99,6 @@ fresh_low m address first fresh low = by m.world fresh low.1
         × ((unwrap_or o (worlds.start m.variant (worlds.first_numbers (with_node m.mesh address first)))).next_copy ≤ 1 + 201 * m.steps)
     by None is old = (omega arith, omega arith)
     by (Some w) is old = absurd (let P : ⊥ = cc in P)
-
-steps_after : (m : schedule.RunState) (es : List Event) → (run_state_after m es).steps ≡ m.steps + length es
-unfolding run_state_after next_state
-steps_after m [] = omega arith
-steps_after m (e ∷ es) = let rest = steps_after (next_state m e) es in omega arith
 
 low_after : (m : schedule.RunState) (es : List Event) → UsualList (length m.mesh) es → IsKept m → Low m → Low (run_state_after m es)
 unfolding run_state_after UsualList
@@ -197,7 +194,7 @@ unfolding StaysLow Low
 drawn_low k m [] usual kept low few = (low, omega arith)
 drawn_low k m (e ∷ es) usual kept low few =
     drawn_by_events k (run_state_after (with_world m) (e ∷ es)) (outcome_of_events (with_world m) (e ∷ es))
-    (low_after (with_world m) (e ∷ es) usual (started_kept m kept) (low_started m low)) (omega (arith, steps_after (with_world m) (e ∷ es))) (ends_at (with_world m) (e ∷ es))
+    (low_after (with_world m) (e ∷ es) usual (started_kept m kept) (low_started m low)) (omega (arith, steps_after_events (with_world m) (e ∷ es))) (ends_at (with_world m) (e ∷ es))
 
 -- what holds of a line
 record Holds (k : ℕ) (es : List Event) (o : LineOutcome) (c : Channel) : Type 0 where
@@ -282,11 +279,6 @@ lines_from k rates m (piece ∷ pieces) count kept low usual few room =
     (λ n well lower more. lines_from (k + 1) rates (next rates m piece n) pieces (omega arith) well lower leads.left holds.few more))
 
 -- ---- how many lines an input has
-
-last_few : (most : Limits) (more : Bool) (l : List ℕ) → length (last_piece most more l) ≤ 1
-last_few most true [] = omega arith
-last_few most false [] = omega arith
-last_few most more (b ∷ bs) = omega arith
 
 pieces_few : (most : Limits) (more : Bool) (ls : List (List ℕ)) → length (pieces_of most more ls) ≤ length ls
 unfolding pieces_of

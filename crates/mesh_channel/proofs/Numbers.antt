@@ -1,5 +1,5 @@
 -- The numbers of copies in a run over a channel are those that lines may have.
-use Rattle.std.proofs.Common.{◌≡◌, ◌⊎◌, inl, inr, ℕ, zero, suc, ◌+◌, ◌-◌, ◌*◌, ◌^◌, ◌<◌, ◌≤◌, Bool, true, false, cond, List, [], ◌∷◌, ◌++◌, length, length-append, Option, Some, None, Result, Ok, Err, is_some, refl, sym, ap, ap₂, subst, ◌∙◌, arith, take}
+use Rattle.std.proofs.Common.{◌≡◌, ◌⊎◌, inl, inr, ℕ, zero, suc, ◌+◌, ◌*◌, ◌^◌, ◌<◌, ◌≤◌, Bool, true, false, cond, List, [], ◌∷◌, ◌++◌, length, Option, Some, None, Result, Ok, Err, is_some, refl, sym, ap, ap₂, subst, ◌∙◌, arith, take}
 use Rattle.std.specs.Prelude.{nat_le}
 use Rattle.std.specs.List.{AllByRecursion}
 use Rattle.std.proofs.lemmas.List.Splits.{length-slice_split}
@@ -9,7 +9,7 @@ use Rattle.mesh_grammar.proofs.Readings.{if_case}
 use Rattle.mesh_grammar.specs.declared.fault.LineFault.{LineFault}
 use Rattle.mesh_model.specs.Choices.{first_turn, first_send, first_ask}
 use Rattle.mesh_model.specs.Worlds as worlds
-use Rattle.mesh_model.specs.Worlds.{World, Copy, Event, Give, Turn, Send, Ask, Link, Cut, Deliver, Lose, Double, Outcome, Idle, Next, WorldEffect, Changed, Taken, Sent, CopyHeard, CopyLost, CopyDoubled, find_copy, step, after, is_parcel, at_copy, without_copy, with_double}
+use Rattle.mesh_model.specs.Worlds.{World, Copy, Event, Give, Turn, Send, Ask, Link, Cut, Deliver, Lose, Double, Outcome, Idle, Next, WorldEffect, Changed, Taken, Sent, CopyHeard, CopyLost, CopyDoubled, find_copy, step, is_parcel, at_copy, without_copy, with_double}
 use Rattle.mesh_text.specs.Schedule as schedule
 use Rattle.mesh_text.specs.Schedule.{world_of, with_world, outcome_at, next_state, with_line_read}
 use Rattle.mesh_text.specs.Runs.{run_state_after}
@@ -21,13 +21,14 @@ use Rattle.mesh_fates.specs.declared.fate.Fate.{Fate}
 use Rattle.mesh_fates.specs.Plans.{Plan}
 use Rattle.mesh_fates.specs.declared.due.Due.{Due}
 use Rattle.mesh_fates.specs.Channels.{Channel, losses, doublings, number_behind, with_fate, decided, after_world_effect, after_chosen, after_given, is_unicast}
+use Rattle.mesh_fates.proofs.Deciding.{behind_few, few_left}
 use Rattle.mesh_channel.specs.Choices.{Choice, Chosen, Nothing, in_flight, looked_at, by_nodes, ask_or, send_or, due_or, turn_or, left_or, in_tick, next_due, or_next_tick, next_choice, is_enough, last_tick, at_end}
 use Rattle.mesh_channel.specs.declared.until.Until.{Until}
 use Rattle.mesh_channel.specs.declared.until.Until.TheVariants.{Events, Tick}
 use Rattle.mesh_channel.specs.Chosen.{Drawn, given, event_then, choice_then, chosen_from, chosen_in, chosen}
 use Rattle.mesh_channel.proofs.HasLine.{HasLine}
 use Rattle.mesh_channel.proofs.InMesh.{IsOfLeft, LeftUsual, UsualDrawn, usual_choice, UsualChoice, chosen_left}
-use Rattle.mesh_channel.proofs.Steps.{cast_in, MakesFew, step_few, step_grows, numbered_found}
+use Rattle.mesh_channel.proofs.Steps.{cast_in, MakesFew, step_few, step_grows, numbered_found, step_rises}
 
 -- ---- what is left to do
 
@@ -71,22 +72,10 @@ unfolding AllLeft IsLeft
 losses_all id true is = (is, tt)
 losses_all id false is = tt
 
-losses_few : (id : ℕ) (lost : Bool) → length (cond lost (Lose id ∷ []) []) ≤ 1
-losses_few id true = omega arith
-losses_few id false = omega arith
-
 doublings_all : (id new : ℕ) (lot : Option Lot) → IsNumber id → IsNumber new → AllLeft (doublings id new lot)
 unfolding AllLeft IsLeft
 doublings_all id new None is other = tt
 doublings_all id new (Some lot) is other = (is, losses_all new lot.lost other)
-
-doublings_few : (id new : ℕ) (lot : Option Lot) → length (doublings id new lot) ≤ 2
-doublings_few id new None = omega arith
-doublings_few id new (Some lot) = let one = losses_few new lot.lost in omega arith
-
-behind_few : (new : ℕ) (lot : Option Lot) → (new ≤ number_behind new lot) × (number_behind new lot ≤ new + 1)
-behind_few new None = (omega arith, omega arith)
-behind_few new (Some lot) = (omega arith, omega arith)
 
 decided_all : (rates : Rates) (unicast : Bool) (count id new : ℕ) (c : Channel) → 1 ≤ id → 1 ≤ new → id + count ≤ 2 ^ 63 → new + count ≤ 2 ^ 63 → AllLeft c.left → AllLeft (decided rates unicast count id new c).left
 unfolding decided
@@ -100,16 +89,6 @@ decided_all rates unicast (suc count) id new c one other low high is =
     (omega arith) (omega (arith, behind.0)) (omega arith) (omega (arith, behind.1))
     (all_append (c.left ++ doublings id new drawn.fate.double) (losses id drawn.fate.lot)
     (all_append c.left (doublings id new drawn.fate.double) is (doublings_all id new drawn.fate.double number double)) (losses_all id drawn.fate.lot.lost number))
-
-decided_few : (rates : Rates) (unicast : Bool) (count id new : ℕ) (c : Channel) → length (decided rates unicast count id new c).left ≤ length c.left + 3 * count
-unfolding decided
-decided_few rates unicast zero id new c = omega arith
-decided_few rates unicast (suc count) id new c =
-    let drawn = draw rates unicast c.rng in
-    let one = doublings_few id new drawn.fate.double in
-    let other = losses_few id drawn.fate.lot.lost in
-    let rest = decided_few rates unicast count (id + 1) (number_behind new drawn.fate.double) (with_fate (record c { rng = drawn.rng }) id new drawn.fate) in
-    omega (arith, length-append (c.left ++ doublings id new drawn.fate.double) (losses id drawn.fate.lot), length-append c.left (doublings id new drawn.fate.double))
 
 -- ---- after an event
 
@@ -133,8 +112,8 @@ world_effect_all rates w (CopyDoubled id to parcel) c small few is = is
 
 pub world_effect_few : (rates : Rates) (w : World) (h : WorldEffect) (c : Channel) → length (after_world_effect rates w h c).left ≤ length c.left + 3 * cast_in h
 world_effect_few rates w Changed c = omega arith
-world_effect_few rates w (Taken took effect copies) c = decided_few rates (is_unicast effect.cast) (length copies) w.next_copy (w.next_copy + length copies) c
-world_effect_few rates w (Sent effect copies) c = decided_few rates (is_unicast effect.cast) (length copies) w.next_copy (w.next_copy + length copies) c
+world_effect_few rates w (Taken took effect copies) c = few_left rates (is_unicast effect.cast) (length copies) w.next_copy (w.next_copy + length copies) c
+world_effect_few rates w (Sent effect copies) c = few_left rates (is_unicast effect.cast) (length copies) w.next_copy (w.next_copy + length copies) c
 world_effect_few rates w (CopyHeard from to) c = omega arith
 world_effect_few rates w (CopyLost copy) c = omega arith
 world_effect_few rates w (CopyDoubled id to parcel) c = omega arith
@@ -277,15 +256,12 @@ pub low_started : (m : schedule.RunState) → Low m → Low (with_world m)
 unfolding Low
 low_started m low = low
 
-next_is_least : (w : World) (e : Event) → w.next_copy ≤ (after w (step w e)).next_copy
-next_is_least w e = Rattle.mesh_channel.proofs.Steps.step_rises w e
-
 pub low_stepped : (m : schedule.RunState) (e : Event) → IsKept m → Low m → Low (next_state m e)
 unfolding Low next_state
 low_stepped m e kept low =
     let few = few_nodes m kept in
     let grown = step_grows (world_of m) e in
-    let least = next_is_least (world_of m) e in
+    let least = step_rises (world_of m) e in
     (omega (arith, low.0), omega (arith, low.1))
 
 pub small : (m : schedule.RunState) → IsKept m → Low m → m.steps ≤ 2 ^ 50 → IsSmall (world_of m)

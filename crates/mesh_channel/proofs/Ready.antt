@@ -10,7 +10,7 @@ use Rattle.aodv_model.specs.Fullness.{turn_full, send_full, ask_full}
 use Rattle.mesh_grammar.proofs.Readings.{if_case}
 use Rattle.mesh_model.specs.Numbered.{numbered_from}
 use Rattle.mesh_model.specs.Worlds.{is_parcel, World, Node, Copy, Event, Give, Turn, Send, Ask, Link, Cut, Deliver, Lose, Double, range, receivers, copies, copies_to, copies_of, done_by, push, find_copy, without, WorldEffect, Changed, Taken, Sent, CopyHeard, CopyLost, CopyDoubled, Outcome, Idle, Full, Next, unless_full, turn_of, send_of, ask_of, at_node, at_copy, with_link, without_link, without_copy, with_double, double_of, step, after, run, are_linked}
-use Rattle.mesh_text.proofs.RunLaws.{run_append}
+use Rattle.mesh_text.proofs.RunLaws.{run_append, run_none, run_one}
 use Rattle.mesh_fates.specs.declared.rates.Rates.{Rates}
 use Rattle.mesh_fates.specs.Fates.{draw}
 use Rattle.mesh_fates.specs.declared.fate.Lot.{Lot}
@@ -198,14 +198,6 @@ double_goes v (Some k) there = (λ e. cc, (k, refl))
 double_is : (v : World) (id : ℕ) → Flies v.flying id → (step v (Double id) ≢ Idle) × ((k : Copy) × (after v (step v (Double id)) ≡ with_double v k))
 unfolding step Flies
 double_is v id there = double_goes v (find_copy v.flying id) there
-
-run_none : (v : World) → run v [] ≡ v
-unfolding run
-run_none v = refl
-
-run_one : (v : World) (e : Event) → run v (e ∷ []) ≡ after v (step v e)
-unfolding run
-run_one v e = refl
 
 run_first : (v : World) (e : Event) (es : List Event) → run v (e ∷ es) ≡ run (after v (step v e)) es
 unfolding run

@@ -60,14 +60,11 @@ came_alone n e Idle = On (outcome_lines n.mesh e Idle) (with_line_read (next_sta
 came_alone n e (worlds.Full x field) = Full [] n e field
 came_alone n e (Next w h) = On (outcome_lines n.mesh e (Next w h)) (with_line_read (next_state n e))
 
-append_none : (text : List ℕ) → text ++ [] ≡ text
-append_none text = append-nil text
-
 alone_is : (n : schedule.RunState) (e : Event) (o : Outcome) → outcome_by_events (done_then n e o (λ k. outcome_of_events k [])) ≡ came_alone n e o
 unfolding outcome_of_events
-alone_is n e Idle = ap (λ t. On t (with_line_read (next_state n e))) (append_none (outcome_lines n.mesh e Idle))
+alone_is n e Idle = ap (λ t. On t (with_line_read (next_state n e))) (append-nil (outcome_lines n.mesh e Idle))
 alone_is n e (worlds.Full x field) = refl
-alone_is n e (Next w h) = ap (λ t. On t (with_line_read (next_state n e))) (append_none (outcome_lines n.mesh e (Next w h)))
+alone_is n e (Next w h) = ap (λ t. On t (with_line_read (next_state n e))) (append-nil (outcome_lines n.mesh e (Next w h)))
 
 event_came : (s : schedule.RunState) (e : Event) → IsMesh s.mesh → IsEventLine s.mesh e → text.outcome_of_piece s (Whole (words_of s.mesh (Does e))) ≡ came_alone (with_world s) e (outcome_at (with_world s) e)
 unfolding text.outcome_of_line outcome_of_events

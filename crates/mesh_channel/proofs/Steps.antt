@@ -1,36 +1,17 @@
 -- How many copies an event makes, and what numbers copies have.
-use Rattle.std.proofs.Common.{◌≡◌, ℕ, zero, suc, ◌+◌, ◌*◌, ◌<◌, ◌≤◌, ◌&&◌, eqb, Bool, true, false, cond, List, [], ◌∷◌, ◌++◌, length, length-append, Option, Some, None, is_some, refl, sym, ap, subst, ◌∙◌, arith}
+use Rattle.std.proofs.Common.{◌≡◌, ℕ, zero, ◌+◌, ◌*◌, ◌<◌, ◌≤◌, ◌&&◌, eqb, Bool, true, false, cond, List, [], ◌∷◌, ◌++◌, length, length-append, Option, Some, None, is_some, refl, sym, ap, subst, ◌∙◌, arith}
 use Rattle.std.specs.Prelude.{slice_get}
 use Rattle.mesh_base.specs.declared.events.Full.{Full as Counter}
-use Rattle.mesh_base.specs.Members.{NodeIds, members_below}
-use Rattle.mesh_base.proofs.Ranks.{members_few}
+use Rattle.mesh_base.specs.Members.{NodeIds}
 use Rattle.aodv_model.specs.Cores.{Item, New, Heard, Core, Message}
-use Rattle.aodv_model.specs.Handlers.{Cast, Nothing, One, Many, All, Reaction, turn, send, may_send, ask, may_ask}
+use Rattle.aodv_model.specs.Handlers.{Reaction, turn, send, may_send, ask, may_ask}
 use Rattle.aodv_model.specs.Fullness.{turn_full, send_full, ask_full}
 use Rattle.mesh_grammar.proofs.Readings.{if_case}
-use Rattle.mesh_model.specs.Numbered.{numbered_from}
 use Rattle.mesh_model.specs.InMesh.{AreNumbered}
-use Rattle.mesh_model.specs.Worlds.{is_parcel, World, Node, Copy, Event, Give, Turn, Send, Ask, Link, Cut, Deliver, Lose, Double, range, receivers, copies, copies_to, copies_of, done_by, push, with_item, find_copy, WorldEffect, Changed, Taken, Sent, CopyHeard, CopyLost, CopyDoubled, Outcome, Idle, Full, Next, unless_full, turn_of, send_of, ask_of, at_node, at_copy, with_link, without_link, without_copy, with_double, step, after, are_linked}
+use Rattle.mesh_model.specs.Worlds.{is_parcel, World, Node, Copy, Event, Give, Turn, Send, Ask, Link, Cut, Deliver, Lose, Double, range, copies, copies_to, done_by, push, find_copy, WorldEffect, Changed, Taken, Sent, CopyHeard, CopyLost, CopyDoubled, Outcome, Idle, Full, Next, unless_full, turn_of, send_of, ask_of, at_node, at_copy, with_link, without_link, without_copy, with_double, step, after, are_linked}
+use Rattle.mesh_model.proofs.Copies.{copies_few, push_next}
 
 -- ---- an event makes at most as many copies as there are nodes
-
-numbered_length : (make : ℕ → ℕ → Copy) (tos : List ℕ) (id : ℕ) → length (numbered_from make tos id) ≡ length tos
-numbered_length make [] id = refl
-numbered_length make (to ∷ tos) id = ap suc (numbered_length make tos (id + 1))
-
-copies_length : (c : Cast) (tos : List ℕ) (id from : ℕ) → length (copies_of c tos id from) ≤ length tos
-copies_length Nothing tos id from = omega arith
-copies_length (One y m) tos id from = let same = numbered_length (λ i to. record { id = i; from = from; to = to; message = m }) tos id in omega arith
-copies_length (Many s m) tos id from = let same = numbered_length (λ i to. record { id = i; from = from; to = to; message = m }) tos id in omega arith
-copies_length (All m) tos id from = let same = numbered_length (λ i to. record { id = i; from = from; to = to; message = m }) tos id in omega arith
-
-copies_few : (w : World) (x : ℕ) (c : Cast) → length (copies w x c) ≤ length w.nodes
-unfolding copies
-copies_few w x c =
-    let tos : List ℕ = members_below (length w.nodes) (receivers (range w x) c) in
-    let one = copies_length c tos w.next_copy x in
-    let other = members_few (length w.nodes) (receivers (range w x) c) in
-    omega arith
 
 -- so many copies were cast
 abbrev pub cast_in : WorldEffect → ℕ
@@ -69,14 +50,6 @@ ask_few w x d core queue =
     let few = copies_few w x ((ask core d).effect).cast in
     if_case (MakesFew w) (may_ask core d) (unless_full x (ask_full core) (Next (done_by w x (ask core d) queue) (Sent (ask core d).effect (copies w x ((ask core d).effect).cast)))) Idle
     (λ _. unless_few w x (ask_full core) _ (omega arith, few)) (λ _. tt)
-
-push_next : (w : World) (x : ℕ) (item : Item) → (push w x item).next_copy ≡ w.next_copy
-unfolding push
-push_next w x item = by (slice_get w.nodes x)
-  where
-    by : (o : Option Node) → (with_item w x o item).next_copy ≡ w.next_copy
-    by None = refl
-    by (Some n) = refl
 
 node_few : (w : World) (f : Core → List Item → Outcome) (o : Option Node) → ((core : Core) (queue : List Item) → MakesFew w (f core queue)) → MakesFew w (at_node o f)
 unfolding MakesFew

@@ -2,12 +2,12 @@
 use Rattle.std.proofs.Common.{◌≡◌, ◌≢◌, ℕ, zero, suc, ◌<◌, Bool, true, false, List, [], ◌∷◌, Option, Some, None, refl, ap, ◌∙◌, arith, cond}
 use Rattle.std.specs.Prelude.{nat_le, nat_lt, not}
 use Rattle.std.specs.Prelude.{◌==◌, ◌&&◌, length}
-use Rattle.std.proofs.lemmas.Bool.{ltb-true, ne_eqb}
+use Rattle.std.proofs.lemmas.Bool.{ltb-true, ne_eqb, and_parts}
 use Rattle.mesh_checkpoint.specs.Formats.{◌>>=◌, byte_at, get_maybe, maybe}
 use Rattle.mesh_checkpoint.specs.Checkpoint.{world}
 use Rattle.mesh_checkpoint.specs.Counts.{data_in_world, data_in}
 use Rattle.mesh_checkpoint.specs.Reading.{IsPassed, Passes}
-use Rattle.mesh_checkpoint.proofs.Formats.{test_some, true_both}
+use Rattle.mesh_checkpoint.proofs.Formats.{test_some}
 
 -- a byte of two kinds
 pub record IsKind (bytes : List ℕ) (k : ℕ) (rest : List ℕ) : Type 0 where
@@ -18,7 +18,7 @@ pub kind_of : (bytes : List ℕ) (k : ℕ) (rest : List ℕ) → byte_at 0 2 byt
 kind_of [] k rest e = absurd cc
 kind_of (b ∷ bytes) k rest e =
     let t = test_some (nat_le 0 b && nat_lt b 2) (b, bytes) (k, rest) e in
-    let lt : b < 2 = ltb-true b 2 (true_both (nat_le 0 b) (nat_lt b 2) t.0).1 in
+    let lt : b < 2 = ltb-true b 2 (and_parts (nat_le 0 b) (nat_lt b 2) t.0).1 in
     let same : b ≡ k = ap (λ (p : ℕ × List ℕ). p.0) t.1 in
     record { parts = ap (λ (p : ℕ × List ℕ). p.0 ∷ p.1) t.1; two = omega arith }
 
@@ -41,7 +41,7 @@ maybe_first may get bytes k rest e zeroth =
     let is = kind_of bytes k rest e in
     rw (is.parts, zeroth) refl
 
-maybe_second : {A : Type 0} (may : Bool) (get : List ℕ → Option (A × List ℕ)) (bytes : List ℕ) (k : ℕ) (rest : List ℕ) → byte_at 0 2 bytes ≡ Some (k, rest) → k ≢ 0
+pub maybe_second : {A : Type 0} (may : Bool) (get : List ℕ → Option (A × List ℕ)) (bytes : List ℕ) (k : ℕ) (rest : List ℕ) → byte_at 0 2 bytes ≡ Some (k, rest) → k ≢ 0
     → get_maybe may get bytes ≡ cond may (get rest >>= λ x. Some (Some x.0, x.1)) None
 maybe_second may get bytes k rest e some =
     let is = kind_of bytes k rest e in

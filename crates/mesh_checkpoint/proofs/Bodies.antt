@@ -4,6 +4,7 @@ use Rattle.std.specs.Prelude.{nat_le, not, ◌==◌}
 use Rattle.std.specs.Int.{w16}
 use Rattle.std.specs.List.{sum_by}
 use Rattle.std.proofs.lemmas.Bool.{ne_eqb}
+use Rattle.std.proofs.lemmas.Option.{same_Some}
 use Rattle.mesh_base.specs.declared.limits.TheConstants.{MOST_NODES}
 use Rattle.mesh_checkpoint.specs.declared.body.Head.{Head}
 use Rattle.mesh_checkpoint.specs.Formats.{◌>>=◌, only_if, number_at, get_rising, get_maybe, rising, maybe}
@@ -11,17 +12,17 @@ use Rattle.mesh_checkpoint.specs.Checkpoint as model
 use Rattle.mesh_checkpoint.specs.Checkpoint.{World, Body, has_nodes}
 use Rattle.mesh_checkpoint.specs.Counts.{data_in}
 use Rattle.mesh_checkpoint.specs.Reading.{IsPassed, IsBodyPassed}
-use Rattle.mesh_checkpoint.proofs.Formats.{bind_some, some_is, joined}
+use Rattle.mesh_checkpoint.proofs.Formats.{bind_some, joined}
 
 consed : {A : Type 0} (x : A) (n : ℕ) (o : Option (List A × List ℕ)) (xs : List A) (rest : List ℕ) → ((ys : List A) (left : List ℕ) → o ≡ Some (ys, left) → length ys ≡ n) → joined x o ≡ Some (xs, rest) → length xs ≡ suc n
 consed {A} x n None xs rest len e = absurd cc
 consed {A} x n (Some y) xs rest len e =
     let made : List A × List ℕ = (x ∷ y.0, y.1) in
-    ap (λ (q : List A × List ℕ). length q.0) (sym (some_is made (xs, rest) e)) ∙ ap suc (len y.0 y.1 refl)
+    ap (λ (q : List A × List ℕ). length q.0) (sym (same_Some made (xs, rest) e)) ∙ ap suc (len y.0 y.1 refl)
 
 -- as many values are read as are asked for
 rising_length : {A : Type 0} (key : A → ℕ) (get : List ℕ → Option (A × List ℕ)) (n low : ℕ) (bytes : List ℕ) (xs : List A) (rest : List ℕ) → get_rising key get n low bytes ≡ Some (xs, rest) → length xs ≡ n
-rising_length {A} key get zero low bytes xs rest e = ap (λ (q : List A × List ℕ). length q.0) (sym (some_is ([], bytes) (xs, rest) e))
+rising_length {A} key get zero low bytes xs rest e = ap (λ (q : List A × List ℕ). length q.0) (sym (same_Some ([], bytes) (xs, rest) e))
 rising_length {A} key get (suc n) low bytes xs rest e =
     let x = bind_some (get bytes) (λ x. only_if (nat_le low (key x.0)) x >>= λ x. get_rising key get n (key x.0 + 1) x.1 >>= λ y. Some (x.0 ∷ y.0, y.1)) (xs, rest) e in
     let z = bind_some (only_if (nat_le low (key x.0.0)) x.0) (λ x. get_rising key get n (key x.0 + 1) x.1 >>= λ y. Some (x.0 ∷ y.0, y.1)) (xs, rest) x.2 in

@@ -3,7 +3,7 @@ use Rattle.std.proofs.Common.{◌≡◌, ℕ, zero, suc, ◌+◌, ◌^◌, ◌�
 use Rattle.std.specs.Prelude.{nat_le, nat_lt, ◌==◌}
 use Rattle.std.specs.Int.{w16, w32, w64}
 use Rattle.std.proofs.lemmas.List.{append-nil}
-use Rattle.std.proofs.lemmas.Bool.{ltb-true}
+use Rattle.std.proofs.lemmas.Bool.{ltb-true, and_parts}
 use Rattle.mesh_base.specs.declared.limits.TheConstants.{MOST_NODES}
 use Rattle.mesh_base.specs.declared.events.Variant.{Variant}
 use Rattle.mesh_base.specs.declared.events.Variant.TheVariants.{Base, Number, Reply, Error}
@@ -12,10 +12,10 @@ use Rattle.mesh_base.specs.declared.events.Item.TheVariants.{New, Heard}
 use Rattle.mesh_checkpoint.specs.Formats.{is_from, one_if, truth}
 use Rattle.mesh_checkpoint.specs.Checkpoint.{variant_number, variant_of, variant, index, any16, any32, positive32, datum, sum, head, mesh, route, request, waits, item_of, parts_of, item, node, link, copy, world, has_nodes, body}
 use Rattle.mesh_checkpoint.specs.Laws.{WrittenIsRead, ReadIsWritten}
-use Rattle.mesh_checkpoint.proofs.Formats.{IsFormat, true_both, byte_is, wide16, wide32, wide64, number_is, seq_is, times_is, as_is, counted_is, counted_rising_is, text_is, maybe_is, either_is}
+use Rattle.mesh_checkpoint.proofs.Formats.{IsFormat, byte_is, wide16, wide32, wide64, number_is, seq_is, times_is, as_is, counted_is, counted_rising_is, text_is, maybe_is, either_is}
 
 pub below : (low end n : ℕ) → is_from low end n ≡ true → n < end
-below low end n e = let t = true_both (nat_le low n) (nat_lt n end) e in ltb-true n end t.1
+below low end n e = let t = and_parts (nat_le low n) (nat_lt n end) e in ltb-true n end t.1
 
 -- ---- values in another form
 
@@ -48,7 +48,7 @@ variant_back (suc (suc (suc (suc n)))) fits =
 variant_is : IsFormat variant
 variant_is = as_is _ _ _ (byte_is 0 4) variant_there variant_back
 
-item_there : (i : Item) → item_of (parts_of i) ≡ i
+pub item_there : (i : Item) → item_of (parts_of i) ≡ i
 item_there (New dest b) = refl
 item_there (Heard from bytes) = refl
 
@@ -137,7 +137,7 @@ mesh_is = counted_rising_is _ _ _ (number_is w16 (2 ^ 16) wide16 0 _ (omega arit
 
 few_nodes : (nodes : List (ℕ × ℕ)) → mesh.fits nodes ≡ true → length nodes ≤ 2 ^ 16
 few_nodes nodes fits =
-    let f = true_both (is_from 0 (MOST_NODES + 1) (length nodes)) _ fits in
+    let f = and_parts (is_from 0 (MOST_NODES + 1) (length nodes)) _ fits in
     let b = below 0 (MOST_NODES + 1) (length nodes) f.0 in omega (arith, b)
 
 pub body_is : IsFormat body

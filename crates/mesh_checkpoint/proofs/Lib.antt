@@ -1,6 +1,6 @@
-mod Formats
-mod Checkpoint
-mod State
+pub mod Formats
+pub mod Checkpoint
+pub mod State
 pub mod Behind
 mod Bodies
 pub mod Loop

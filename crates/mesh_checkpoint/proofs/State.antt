@@ -1,11 +1,11 @@
 -- A checkpoint is that of one body, which is read from it; and why bytes are none.
-use Rattle.std.proofs.Common.{◌≡◌, ◌≢◌, ℕ, ◌+◌, ◌-◌, ◌^◌, ◌<◌, ◌≤◌, true, false, List, [], ◌++◌, length, take, drop, Some, None, refl, sym, ap, ◌∙◌, arith, get_or, Fits, w8, ltb, subst, Option, inl, inr}
-use Rattle.std.proofs.Math.Facts.{Fits-lt-pow}
+use Rattle.std.proofs.Common.{◌≡◌, ◌≢◌, ℕ, ◌+◌, ◌-◌, ◌^◌, ◌<◌, ◌≤◌, true, false, List, [], ◌++◌, length, take, drop, Some, None, refl, sym, ap, ◌∙◌, arith, ltb, subst, Option, inl, inr}
 use Rattle.std.specs.Prelude.{nat_le, nat_lt}
 use Rattle.std.specs.Int.{w32, to_be_bytes}
 use Rattle.std.proofs.lemmas.List.{take-append-drop, length-drop}
 use Rattle.std.proofs.lemmas.Bool.{cases_lt, ltb-false, lt-ltb, le-leb, le-ltb, and_from}
-use Rattle.std.proofs.lemmas.Option.{none-some}
+use Rattle.std.proofs.lemmas.Option.{none-some, same_Some}
+use Rattle.mesh_base.proofs.Lemmas.Bools.{not_barred}
 use Rattle.mesh_checkpoint.specs.declared.limits.TheConstants.{LONGEST_BODY}
 use Rattle.mesh_checkpoint.specs.declared.body.Head.{Head}
 use Rattle.mesh_checkpoint.specs.declared.validating.ValidateError.TheVariants as errors
@@ -15,7 +15,7 @@ use Rattle.mesh_checkpoint.specs.Counts.{data_in, IsBalanced}
 use Rattle.mesh_checkpoint.specs.State.{magic, body_length, IsCheckpoint, stated_size, HasLength}
 use Rattle.mesh_checkpoint.specs.Points.{body_of}
 use Rattle.mesh_checkpoint.specs.Laws.{AreBytes, FittingIsWritten, OneCheckpoint, OneBody, BalancedIsTaken, OneRefusal, OneState, FittingIsState}
-use Rattle.mesh_checkpoint.proofs.Formats.{IsFormat, wide32, number_is, some_is, long_some, test_some, bytes-drop}
+use Rattle.mesh_checkpoint.proofs.Formats.{IsFormat, wide32, number_is, test_some, bytes-drop}
 use Rattle.mesh_checkpoint.proofs.Checkpoint.{below, read_is_written, written_is_read}
 
 length_is : IsFormat (number w32 0 (LONGEST_BODY + 1))
@@ -33,7 +33,7 @@ length_parts : (b : List ℕ) (count : ℕ) (rest : List ℕ) → read_length b 
 length_parts b count rest e =
     let n = stated_size b in
     let found : ℕ × List ℕ = (n, drop 4 (drop 4 b)) in
-    let g = long_some (ltb (length (drop 4 b)) 4) (only_if (is_from 0 (LONGEST_BODY + 1) n) found) (count, rest) e in
+    let g = not_barred (ltb (length (drop 4 b)) 4) (only_if (is_from 0 (LONGEST_BODY + 1) n) found) (count, rest) e in
     let t = test_some (is_from 0 (LONGEST_BODY + 1) n) found (count, rest) g.1 in
     let lt = below 0 (LONGEST_BODY + 1) n t.0 in
     (ltb-false _ _ g.0, ap (λ (p : ℕ × List ℕ). p.0) t.1, (omega (arith, lt)), ap (λ (p : ℕ × List ℕ). p.1) t.1)
@@ -66,22 +66,22 @@ stated_of b x is =
     ap read_length is.spelled
     ∙ length_is.again (body_length x) (body.put x) (within (body_length x) is.short)
 
-magic_of : (b : List ℕ) (x : Body) → IsCheckpoint b x → take 4 b ≡ magic
+pub magic_of : (b : List ℕ) (x : Body) → IsCheckpoint b x → take 4 b ≡ magic
 magic_of b x is = ap (λ (k : List ℕ). take 4 k) is.spelled
 
-length_of : (b : List ℕ) (x : Body) → IsCheckpoint b x → HasLength b
+pub length_of : (b : List ℕ) (x : Body) → IsCheckpoint b x → HasLength b
 length_of b x is = has_length b (body_length x) (body.put x) (stated_of b x is) refl
 
 -- what is read behind the length is the body
 body_read : (b : List ℕ) (x : Body) (count : ℕ) (rest : List ℕ) → IsCheckpoint b x → read_length b ≡ Some (count, rest) → body.get rest ≡ Some (x, [])
 body_read b x count rest is e =
-    let same = some_is (body_length x, body.put x) (count, rest) (sym (stated_of b x is) ∙ e) in
+    let same = same_Some (body_length x, body.put x) (count, rest) (sym (stated_of b x is) ∙ e) in
     ap body.get (sym (ap (λ (p : ℕ × List ℕ). p.1) same)) ∙ written_is_read x is.fits
 
 pub one_body : OneBody
 one_body b x y is it =
     let e : Some (x, []) ≡ Some (y, []) = sym (body_read b x (body_length y) (body.put y) is (stated_of b y it)) ∙ written_is_read y it.fits in
-    ap (λ (p : Body × List ℕ). p.0) (some_is (x, []) (y, []) e)
+    ap (λ (p : Body × List ℕ). p.0) (same_Some (x, []) (y, []) e)
 
 pub one_checkpoint : OneCheckpoint
 one_checkpoint b c x is it = is.spelled ∙ sym it.spelled
@@ -118,7 +118,7 @@ no_checkpoint b count rest e none x is = none-some (x, []) (sym none ∙ body_re
 
 pub left_over : (b : List ℕ) (count : ℕ) (rest : List ℕ) (y : Body) (left : List ℕ) → read_length b ≡ Some (count, rest) → body.get rest ≡ Some (y, left) → left ≢ [] → (x : Body) → ¬ (IsCheckpoint b x)
 left_over b count rest y left e got some x is =
-    some (ap (λ (p : Body × List ℕ). p.1) (some_is (y, left) (x, []) (sym got ∙ body_read b x count rest is e)))
+    some (ap (λ (p : Body × List ℕ). p.1) (same_Some (y, left) (x, []) (sym got ∙ body_read b x count rest is e)))
 
 -- ---- sums
 
@@ -127,9 +127,6 @@ sums_of x h n head count balanced = rw (sym head, sym count) balanced
 
 pub balanced_by : (x : Body) (h : Head) (n : ℕ) → x.head ≡ h → data_in x.world ≡ n → h.given + h.copied ≡ h.delivered + h.lost + n → IsBalanced x
 balanced_by x h n head count sums = rw (head, count) sums
-
-pub are_bytes : (b : List ℕ) → ((i : ℕ) → Fits w8 (get_or b i 0)) → AreBytes b
-are_bytes b fit i = Fits-lt-pow (fit i)
 
 -- ---- one refusal
 

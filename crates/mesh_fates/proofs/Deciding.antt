@@ -30,7 +30,7 @@ losses_few id lot = by lot.lost
     by true = omega arith
     by false = omega arith
 
-doublings_few : (id new : ℕ) (double : Option Lot) → length (doublings id new double) ≤ 2
+pub doublings_few : (id new : ℕ) (double : Option Lot) → length (doublings id new double) ≤ 2
 doublings_few id new None = omega arith
 doublings_few id new (Some lot) = let few = losses_few new lot in omega (arith, few)
 

@@ -19,7 +19,7 @@ use Rattle.mesh_fates.proofs.Planned.{all_with}
 
 -- ---- rates of 0
 
-never : (rate w : ℕ) → rate ≡ 0 → happens_at rate w ≡ false
+pub never : (rate w : ℕ) → rate ≡ 0 → happens_at rate w ≡ false
 never rate w none = le-ltb (w % 1000) rate (omega arith)
 
 never_lost : (rates : Rates) (unicast : Bool) (w : ℕ) → rates.loss ≡ 0 → rates.loss_unicast ≡ 0 → happens_at (loss_of rates unicast) w ≡ false

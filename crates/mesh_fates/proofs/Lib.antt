@@ -1,3 +1,3 @@
 mod Planned
-mod Deciding
-mod Lawful
+pub mod Deciding
+pub mod Lawful

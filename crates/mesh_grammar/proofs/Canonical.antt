@@ -1,12 +1,12 @@
 -- A number and an address that are read stand as they are written.
-use Rattle.std.proofs.Common.{◌≡◌, ℕ, zero, suc, ◌+◌, ◌-◌, ◌*◌, ◌/◌, ◌%◌, ◌^◌, ◌<◌, ◌≤◌, Bool, true, false, eqb, leb, cond, not, ◌&&◌, List, [], ◌∷◌, ◌++◌, Option, Some, None, refl, sym, ap, subst, ◌∙◌, arith, append_assoc, append-nil}
+use Rattle.std.proofs.Common.{◌≡◌, ℕ, zero, suc, ◌+◌, ◌-◌, ◌*◌, ◌/◌, ◌%◌, ◌^◌, ◌<◌, ◌≤◌, Bool, true, false, eqb, leb, cond, ◌&&◌, List, [], ◌∷◌, ◌++◌, Option, Some, None, refl, sym, ap, subst, ◌∙◌, arith, append_assoc, append-nil}
 use Rattle.std.specs.List.{join_with_byte}
 use Rattle.std.specs.Str.{all_ascii_digits}
 use Rattle.std.specs.Char.{is_ascii_digit}
 use Rattle.std.specs.Fmt.{decimal}
-use Rattle.std.proofs.lemmas.Bool.{and_parts, eqb-false}
+use Rattle.std.proofs.lemmas.Bool.{and_parts, eqb-false, not-true}
 use Rattle.std.proofs.lemmas.Fmt.{decimal_step, decimal_digit}
-use Rattle.std.proofs.lemmas.Option.{option_and_then_some}
+use Rattle.std.proofs.lemmas.Option.{option_and_then_some, cond_some}
 use Rattle.std.proofs.lemmas.List.Splits.{join_with_byte-slice_split}
 use Rattle.mesh_base.specs.Numbers.{read_on, is_canonical, digits_up_to, number_up_to, positive}
 use Rattle.mesh_base.specs.Parts.{parts}
@@ -42,10 +42,6 @@ one_digit d digit =
     let same : 48 + (d - 48) ≡ d = omega (arith, range.0) in
     decimal_digit (d - 48) (omega (arith, range.0, range.1)) ∙ ap (λ b. b ∷ []) same
 
-not_true : (b : Bool) → not b ≡ true → b ≡ false
-not_true true h = absurd (let P : ⊥ = cc in P)
-not_true false h = refl
-
 canonical_digits : (ds : List ℕ) → is_canonical ds ≡ true → all_ascii_digits ds ≡ true → read_on 0 ds < 2 ^ 64 → decimal (read_on 0 ds) ≡ ds
 canonical_digits [] canonical digits fits = absurd (let P : ⊥ = cc in P)
 canonical_digits (d ∷ []) canonical digits fits =
@@ -54,16 +50,12 @@ canonical_digits (d ∷ []) canonical digits fits =
 canonical_digits (d ∷ e ∷ ds) canonical digits fits =
     let both = and_parts (is_ascii_digit d) (all_ascii_digits (e ∷ ds)) digits in
     let range = digit_range d both.0 in
-    let other = eqb-false d 48 (not_true (eqb d 48) canonical) in
+    let other = eqb-false d 48 (not-true (eqb d 48) canonical) in
     let some : 1 ≤ d - 48 = omega (arith, range.0, other) in
     let first : 10 * 0 + (d - 48) ≡ d - 48 = omega arith in
     ap (λ k. decimal (read_on k (e ∷ ds))) first
     ∙ decimal_on (d - 48) (e ∷ ds) some both.1 (subst (λ k. read_on k (e ∷ ds) < 2 ^ 64) first fits)
     ∙ ap (λ xs. xs ++ e ∷ ds) (one_digit d both.0)
-
-cond_some : {A : Type 0} (b : Bool) (x y : A) → cond b (Some x) None ≡ Some y → (b ≡ true) × (x ≡ y)
-cond_some true x y h = (refl, cc)
-cond_some false x y h = cc
 
 capped : (b : Bool) (o : Option ℕ) (n : ℕ) → cond b o None ≡ Some n → (b ≡ true) × (o ≡ Some n)
 capped true o n h = (refl, h)
@@ -83,7 +75,7 @@ number_is_written most word n h fits =
     let c = capped (is_canonical word) (digits_up_to most word) n h in
     digits_are_written most word n c.0 c.1 fits
 
-positive_is : (o : Option ℕ) (n : ℕ) → positive o ≡ Some n → o ≡ Some n
+pub positive_is : (o : Option ℕ) (n : ℕ) → positive o ≡ Some n → o ≡ Some n
 positive_is None n h = h
 positive_is (Some zero) n h = absurd (let P : ⊥ = cc in P)
 positive_is (Some (suc k)) n h = h

@@ -7,6 +7,7 @@ use Rattle.std.specs.Fmt.{decimal}
 use Rattle.std.proofs.lemmas.Bool.{and_parts}
 use Rattle.std.proofs.lemmas.List.Splits.{join_with_byte-slice_split}
 use Rattle.std.proofs.lemmas.Slice.Eq.{bytes_eq-Decides}
+use Rattle.std.proofs.lemmas.Option.{cond_some}
 use Rattle.mesh_base.specs.declared.limits.TheConstants.{LONGEST_DATUM}
 use Rattle.mesh_base.specs.Addresses.{address_of, dotted_decimal}
 use Rattle.mesh_base.specs.Numbers.{number_up_to, positive}
@@ -47,10 +48,6 @@ is_text_if body is =
     let range = and_parts (leb 1 (length body)) (leb (length body) LONGEST_DATUM) each.0 in
     (leb-true 1 (length body) range.0, leb-true (length body) LONGEST_DATUM range.1, all_shown body each.1)
 
-kept : (b : Bool) (bytes body : List ℕ) → cond b (Some bytes) None ≡ Some body → (b ≡ true) × (bytes ≡ body)
-kept true bytes body h = (refl, cc)
-kept false bytes body h = absurd (let P : ⊥ = cc in P)
-
 -- ---- the arguments of each form
 
 -- the words after a command are read as these arguments
@@ -86,7 +83,7 @@ module _ (f : Form) (words : List (List ℕ)) where
   text_case at bytes next given =
       with_argument_case (Given f words) (text_of bytes) (BadText (span_at at bytes)) next tt
       (λ body is.
-      let both = kept (is_text bytes) bytes body is in
+      let both = cond_some (is_text bytes) bytes body is in
       subst (λ text. Given f words (next text)) both.1 (given (is_text_if bytes both.0)))
 
 none_given : (words : List (List ℕ)) → Given form.Bare words (no_argument words NoArgument)

@@ -1,16 +1,15 @@
 -- Which links stand after the changes that follow where a node comes to a place.
-use Rattle.std.proofs.Common.{◌≡◌, ◌≢◌, ◌⊎◌, inl, inr, ℕ, zero, suc, ◌<◌, ◌≤◌, Bool, true, false, cond, not, ◌&&◌, ◌||◌, eqb, [], ◌∷◌, Option, Some, None, length, refl, sym, ap, subst, ◌∙◌, arith, eq-eqb}
+use Rattle.std.proofs.Common.{◌≡◌, ◌≢◌, ◌⊎◌, inl, inr, ℕ, zero, suc, ◌<◌, ◌≤◌, Bool, true, false, cond, eqb, [], ◌∷◌, Option, Some, None, length, sym, ap, subst, ◌∙◌, arith}
 use Rattle.std.specs.Prelude.{min, max}
 use Rattle.std.specs.FinSet as sets
-use Rattle.std.specs.Ordering.{nat_cmp, eq_by_cmp}
-use Rattle.std.specs.Cmp.{nat_cmp_total, unsigned_tied, Equal-is}
-use Rattle.std.proofs.lemmas.Cmp.{eq_by_cmp_equiv}
 use Rattle.std.proofs.lemmas.Bool.{ne_eqb, cases_lt}
 use Rattle.mesh_base.specs.Members.{NodeIds}
-use Rattle.aodv_model.specs.Pairs.{Pairs, pair_cmp}
+use Rattle.mesh_base.proofs.Lemmas.Sets.{insert_here, insert_other, remove_here, remove_other}
+use Rattle.aodv_model.specs.Pairs.{Pairs}
 use Rattle.aodv_model.proofs.PairLaws.{pair_cmp_total, same_pair}
 use Rattle.mesh_grammar.proofs.Readings.{if_case}
-use Rattle.mesh_model.specs.Worlds.{World, Link, Cut, Changed, Idle, Next, step, after, run, pair, are_linked, linked_below, range, with_link, without_link}
+use Rattle.mesh_model.specs.Worlds.{World, Link, Cut, Changed, Idle, Next, step, after, run, pair, are_linked, range, with_link, without_link}
+use Rattle.mesh_model.proofs.Links.{pair_turned, pair_apart, below_has}
 use Rattle.mesh_text.proofs.RunLaws.{run_append, run_none, run_one}
 use Rattle.mesh_grid.specs.declared.place.Place.{Place}
 use Rattle.mesh_grid.specs.declared.place.Places.{Places}
@@ -20,47 +19,16 @@ use Rattle.mesh_grid.specs.Links.{change, change_with, change_at, changes_below}
 
 -- ---- pairs
 
-pub pair_turned : (a b : ℕ) → pair a b ≡ pair b a
-pair_turned a b = let x : min a b ≡ min b a = omega arith in let y : max a b ≡ max b a = omega arith in λ i. (x i, y i)
-
 pair_again : (a b : ℕ) → pair (min a b) (max a b) ≡ pair a b
 pair_again a b =
     let x : min (min a b) (max a b) ≡ min a b = omega arith in
     let y : max (min a b) (max a b) ≡ max a b = omega arith in
     λ i. (x i, y i)
 
-pub pair_apart : (x y z : ℕ) → y ≢ z → pair x y ≢ pair x z
-pair_apart x y z apart same =
-    let low : min x y ≡ min x z = ap (λ p. p.0) same in
-    let high : max x y ≡ max x z = ap (λ p. p.1) same in
-    apart (omega arith)
-
-hit_same : (p : ℕ × ℕ) → eq_by_cmp pair_cmp p p ≡ true
-hit_same p = (eq_by_cmp_equiv pair_cmp_total).refl p
-
-miss : (p q : ℕ × ℕ) → p ≢ q → eq_by_cmp pair_cmp p q ≡ false
-miss p q apart = by (eq_by_cmp pair_cmp p q) refl
-  where
-    by : (b : Bool) → eq_by_cmp pair_cmp p q ≡ b → eq_by_cmp pair_cmp p q ≡ false
-    by true is = absurd (apart (same_pair p q ((Equal-is (pair_cmp p q)).0 is)))
-    by false is = is
-
 pub linked_turned : (links : Pairs) (a b : ℕ) → are_linked links a b ≡ are_linked links b a
 linked_turned links a b = ap (sets.contains links) (pair_turned a b)
 
 -- ---- one change
-
-with_same : (links : Pairs) (k : ℕ × ℕ) → sets.contains (sets.insert links k) k ≡ true
-with_same links k = sets.contains-insert pair_cmp_total links k k ∙ ap (λ b. b || sets.contains links k) (hit_same k)
-
-with_other : (links : Pairs) (k p : ℕ × ℕ) → p ≢ k → sets.contains (sets.insert links k) p ≡ sets.contains links p
-with_other links k p apart = sets.contains-insert pair_cmp_total links k p ∙ ap (λ b. b || sets.contains links p) (miss p k apart)
-
-less_same : (links : Pairs) (k : ℕ × ℕ) → sets.contains (sets.remove links k) k ≡ false
-less_same links k = sets.contains-remove pair_cmp_total links k k ∙ ap (λ b. not b && sets.contains links k) (hit_same k)
-
-less_other : (links : Pairs) (k p : ℕ × ℕ) → p ≢ k → sets.contains (sets.remove links k) p ≡ sets.contains links p
-less_other links k p apart = sets.contains-remove pair_cmp_total links k p ∙ ap (λ b. not b && sets.contains links p) (miss p k apart)
 
 linking : (w : World) (a b : ℕ) → are_linked w.links a b ≡ false → after w (step w (Link a b)) ≡ with_link w a b
 unfolding step
@@ -86,16 +54,16 @@ cut_links w x y is =
 change_here : (w : World) (in_reach stands : Bool) (x y : ℕ) → are_linked w.links x y ≡ stands → are_linked (run w (change in_reach stands x y)).links x y ≡ in_reach
 change_here w true true x y is = ap (λ v. are_linked v.links x y) (run_none w) ∙ is
 change_here w false false x y is = ap (λ v. are_linked v.links x y) (run_none w) ∙ is
-change_here w true false x y is = ap (λ s. sets.contains s (pair x y)) (linked_links w x y is) ∙ with_same w.links (pair x y)
-change_here w false true x y is = ap (λ s. sets.contains s (pair x y)) (cut_links w x y is) ∙ less_same w.links (pair x y)
+change_here w true false x y is = ap (λ s. sets.contains s (pair x y)) (linked_links w x y is) ∙ insert_here pair_cmp_total same_pair w.links (pair x y)
+change_here w false true x y is = ap (λ s. sets.contains s (pair x y)) (cut_links w x y is) ∙ remove_here pair_cmp_total same_pair w.links (pair x y)
 
 -- any other pair is linked as it was
 change_there : (w : World) (in_reach stands : Bool) (x y a b : ℕ) → are_linked w.links x y ≡ stands → pair a b ≢ pair x y
     → are_linked (run w (change in_reach stands x y)).links a b ≡ are_linked w.links a b
 change_there w true true x y a b is apart = ap (λ v. are_linked v.links a b) (run_none w)
 change_there w false false x y a b is apart = ap (λ v. are_linked v.links a b) (run_none w)
-change_there w true false x y a b is apart = ap (λ s. sets.contains s (pair a b)) (linked_links w x y is) ∙ with_other w.links (pair x y) (pair a b) apart
-change_there w false true x y a b is apart = ap (λ s. sets.contains s (pair a b)) (cut_links w x y is) ∙ less_other w.links (pair x y) (pair a b) apart
+change_there w true false x y a b is apart = ap (λ s. sets.contains s (pair a b)) (linked_links w x y is) ∙ insert_other pair_cmp_total same_pair w.links (pair x y) (pair a b) apart
+change_there w false true x y a b is apart = ap (λ s. sets.contains s (pair a b)) (cut_links w x y is) ∙ remove_other pair_cmp_total same_pair w.links (pair x y) (pair a b) apart
 
 -- ---- the changes with all nodes
 
@@ -168,41 +136,6 @@ module _ (reach : ℕ) (places : Places) (near : NodeIds) (new : Placing) where
             ∙ ap (linked_with reach new.place (place_of places n)) still)
 
 -- ---- the nodes in range
-
--- no node from n on is there
-beyond : (links : Pairs) (a n y : ℕ) → n ≤ y → sets.contains (linked_below links a n) y ≡ false
-beyond links a zero y le = sets.contains-empty nat_cmp y
-beyond links a (suc n) y le = at (are_linked links a n) ∙ beyond links a n y (omega arith)
-  where
-    at : (b : Bool) → sets.contains (cond b (sets.insert (linked_below links a n) n) (linked_below links a n)) y ≡ sets.contains (linked_below links a n) y
-    at true = sets.contains-insert nat_cmp_total (linked_below links a n) n y ∙ ap (λ b. b || sets.contains (linked_below links a n) y) (unsigned_tied y n ∙ ne_eqb y n (λ same. absurd (omega arith)))
-    at false = refl
-
-below_has : (links : Pairs) (a n y : ℕ) → y < n → sets.contains (linked_below links a n) y ≡ are_linked links a y
-below_has links a zero y lt = absurd (omega arith)
-below_has links a (suc n) y lt = by (cases_lt y n) (λ before. below_has links a n y before)
-  where
-    at : (b : Bool) → sets.contains (cond b (sets.insert (linked_below links a n) n) (linked_below links a n)) y ≡ ((b && eqb y n) || sets.contains (linked_below links a n) y)
-    at true = sets.contains-insert nat_cmp_total (linked_below links a n) n y ∙ ap (λ b. b || sets.contains (linked_below links a n) y) (unsigned_tied y n)
-    at false = refl
-
-    no_more : (b c : Bool) → ((b && false) || c) ≡ c
-    no_more true c = refl
-    no_more false c = refl
-
-    last : (b c : Bool) → (b ≡ false → c ≡ false) → ((b && true) || c) ≡ b
-    last true c none = refl
-    last false c none = none refl
-
-    by : (y < n) ⊎ (n ≤ y) → (y < n → sets.contains (linked_below links a n) y ≡ are_linked links a y) → sets.contains (linked_below links a (suc n)) y ≡ are_linked links a y
-    by (inl before) rest = at (are_linked links a n) ∙ ap (λ c. (are_linked links a n && c) || sets.contains (linked_below links a n) y) (ne_eqb y n (λ same. absurd (omega arith)))
-        ∙ no_more (are_linked links a n) (sets.contains (linked_below links a n) y) ∙ rest before
-    by (inr late) rest =
-        let same : y ≡ n = omega arith in
-        at (are_linked links a n)
-        ∙ ap (λ c. (are_linked links a n && c) || sets.contains (linked_below links a n) y) (eq-eqb y n same)
-        ∙ last (are_linked links a n) (sets.contains (linked_below links a n) y) (λ _. beyond links a n y late)
-        ∙ ap (are_linked links a) (sym same)
 
 pub range_is : (w : World) (x y : ℕ) → y < length w.nodes → are_linked w.links x y ≡ sets.contains (range w x) y
 unfolding range

@@ -6,9 +6,11 @@ use Rattle.std.specs.List.{flat_map, AllByRecursion}
 use Rattle.std.specs.FinSet as sets
 use Rattle.std.proofs.lemmas.Bool.{ne_eqb, eq-eqb, cases_lt, cases_eq}
 use Rattle.std.proofs.lemmas.List.{length-replicate, get_or-set_same, get_or-set_other}
+use Rattle.std.proofs.Math.Bool.{and-false}
 use Rattle.mesh_base.specs.declared.limits.TheConstants.{MOST_NODES}
 use Rattle.mesh_base.specs.declared.events.Variant.{Variant}
 use Rattle.mesh_base.specs.Meshes.{with_node}
+use Rattle.mesh_base.proofs.Lemmas.Bools.{eqb_turned}
 use Rattle.aodv_model.specs.Cores.{Item, New, Heard}
 use Rattle.aodv_model.specs.Pairs.{pair_cmp}
 use Rattle.mesh_model.proofs.Cases.{by_cases, push_is}
@@ -17,6 +19,7 @@ use Rattle.mesh_model.specs.Worlds.{World, Event, Turn, Send, Ask, Deliver, rang
 use Rattle.mesh_model.specs.Choices.{first_turn, first_copy, first_send, first_ask, first_of, pick}
 use Rattle.mesh_model.proofs.Acyclic.{no_cycle}
 use Rattle.mesh_model.proofs.Chosen.{OnSome}
+use Rattle.mesh_model.proofs.Links.{pair_apart}
 use Rattle.mesh_grammar.specs.declared.fault.LineFault.{LineFault}
 use Rattle.mesh_shell.specs.Pieces.{Piece, Whole, Long, Beyond}
 use Rattle.mesh_shell.specs.Fold as shell
@@ -44,7 +47,7 @@ use Rattle.mesh_grid.specs.Text.{RunState, opening, has_begun, changes, change_l
 use Rattle.mesh_grid.specs.Runs.{run_state_at}
 use Rattle.mesh_grid.specs.Laws.{LinksFollowPlaces, LinesAreLoopFree}
 use Rattle.mesh_grid.proofs.PlaceLines.{ComesIn, comes_in, KeepsLinks, no_link_line}
-use Rattle.mesh_grid.proofs.Changes.{pair_apart, linked_turned, linked_with, unchanged, changed, range_is}
+use Rattle.mesh_grid.proofs.Changes.{linked_turned, linked_with, unchanged, changed, range_is}
 use Rattle.mesh_grid.proofs.PlaceRuns.{other_allowed, piece_kept}
 
 -- ---- events that change no link
@@ -183,14 +186,10 @@ near_none : (reach : ℕ) (o : Option Place) → are_near reach o None ≡ false
 near_none reach None = refl
 near_none reach (Some p) = refl
 
-and_false : (b : Bool) → (b && false) ≡ false
-and_false true = refl
-and_false false = refl
-
 -- nothing is within reach of a node that has no place
 in_reach_none : (reach : ℕ) (places : Places) (a b : ℕ) → place_of places b ≡ None → is_in_reach reach places a b ≡ false
 in_reach_none reach places a b none =
-    ap (λ o. not (eqb a b) && are_near reach (place_of places a) o) none ∙ ap (λ c. not (eqb a b) && c) (near_none reach (place_of places a)) ∙ and_false (not (eqb a b))
+    ap (λ o. not (eqb a b) && are_near reach (place_of places a) o) none ∙ ap (λ c. not (eqb a b) && c) (near_none reach (place_of places a)) ∙ and-false (not (eqb a b))
 
 none_in_reach : (reach a b : ℕ) → is_in_reach reach no_places a b ≡ false
 none_in_reach reach a b = in_reach_none reach no_places a b (none_at MOST_NODES b)
@@ -265,16 +264,9 @@ near_turned reach None None = refl
 near_turned reach None (Some q) = refl
 near_turned reach (Some p) None = refl
 
-apart_turned : (a b : ℕ) → eqb a b ≡ eqb b a
-apart_turned a b = by (cases_eq a b)
-  where
-    by : (a ≡ b) ⊎ (a ≢ b) → eqb a b ≡ eqb b a
-    by (inl same) = eq-eqb a b same ∙ sym (eq-eqb b a (sym same))
-    by (inr other) = ne_eqb a b other ∙ sym (ne_eqb b a (λ same. other (sym same)))
-
 in_reach_turned : (reach : ℕ) (places : Places) (a b : ℕ) → is_in_reach reach places a b ≡ is_in_reach reach places b a
 in_reach_turned reach places a b =
-    ap₂ (λ c d. not c && d) (apart_turned a b) (near_turned reach (place_of places a) (place_of places b))
+    ap₂ (λ c d. not c && d) (eqb_turned a b) (near_turned reach (place_of places a) (place_of places b))
 
 in_reach_apart : (reach : ℕ) (places : Places) (a b : ℕ) → a ≢ b → is_in_reach reach places a b ≡ are_near reach (place_of places a) (place_of places b)
 in_reach_apart reach places a b other = ap (λ c. not c && are_near reach (place_of places a) (place_of places b)) (ne_eqb a b other)

@@ -1,5 +1,5 @@
 -- The worlds of a run with places are those of the run of its events.
-use Rattle.std.proofs.Common.{◌≡◌, ◌≢◌, inl, inr, ℕ, zero, suc, ◌-◌, ◌<◌, ◌≤◌, Bool, true, false, cond, ◌||◌, List, [], ◌∷◌, ◌++◌, Option, Some, None, Result, Ok, Err, length, take, refl, sym, ap, subst, ◌∙◌, arith, is_some, codes, eqb}
+use Rattle.std.proofs.Common.{◌≡◌, ◌≢◌, ℕ, zero, suc, ◌-◌, ◌<◌, ◌≤◌, Bool, true, false, cond, ◌||◌, List, [], ◌∷◌, ◌++◌, Option, Some, None, Result, Ok, Err, length, take, refl, sym, ap, subst, ◌∙◌, arith, is_some, codes, eqb}
 use Rattle.std.specs.List.{flat_map}
 use Rattle.std.specs.FinSet as sets
 use Rattle.std.proofs.lemmas.Bool.{eqb-false}
@@ -15,16 +15,16 @@ use Rattle.mesh_shell.specs.Fold as shell
 use Rattle.mesh_grammar.specs.Written.{line}
 use Rattle.mesh_grammar.proofs.Readings.{if_case}
 use Rattle.mesh_text.specs.Schedule as schedule
-use Rattle.mesh_text.specs.Schedule.{AcceptedLine, Nothing, NewNode, Does, Chooses, ShowsNode, ShowsRoute, ShowsFlight, line_of, world_of, next_state, with_line_read}
+use Rattle.mesh_text.specs.Schedule.{AcceptedLine, Nothing, NewNode, Does, Chooses, ShowsNode, ShowsRoute, ShowsFlight, line_of, world_of, with_line_read}
 use Rattle.mesh_text.specs.Ranges.{IsInTime}
 use Rattle.mesh_text.specs.Runs as runs
 use Rattle.mesh_text.specs.Runs.{run_state_after, events_after, events_read}
 use Rattle.mesh_text.specs.Text.{pieces_of_input, LineOutcome, On, Refused, Full, outcome_of_read}
 use Rattle.mesh_text.specs.Text as text
 use Rattle.mesh_text.proofs.InRange.{Allowed, line_allowed}
-use Rattle.mesh_text.proofs.RunStates.{IsKept, UsualList, all_positive, opening_kept, stepped_kept, counted_kept, IsKeptCame, piece_kept as schedule_kept}
+use Rattle.mesh_text.proofs.RunStates.{IsKept, UsualList, all_positive, opening_kept, counted_kept, IsKeptCame, piece_kept as schedule_kept}
 use Rattle.mesh_text.proofs.RunLaws.{NotFull, Follows, follows, GoesBy, result_goes, read_usual, goes_follows}
-use Rattle.mesh_text.proofs.RunStateLaws.{world_after_events, mesh_after_events, count_after_events}
+use Rattle.mesh_text.proofs.RunStateLaws.{kept_after_events, events_go}
 use Rattle.mesh_grid.specs.declared.place.Place.{Place}
 use Rattle.mesh_grid.specs.declared.place.Places.{Places}
 use Rattle.mesh_grid.specs.declared.line.Placing.{Placing}
@@ -64,41 +64,13 @@ below_usual size reach places near new (suc n) first le =
     each_append (IsEvent size) (changes_below reach places near new n) (change_at reach places near new n)
     (below_usual size reach places near new n first (omega arith)) (at_usual size reach places near new n first (omega arith))
 
--- ---- the state after events
-
-after_kept : (m : schedule.RunState) (es : List Event) → UsualList (length m.mesh) es → IsKept m → IsKept (run_state_after m es)
-unfolding run_state_after UsualList next_state
-after_kept m [] usual is = is
-after_kept m (e ∷ es) usual is = after_kept (next_state m e) es usual.1 (stepped_kept m e usual.0 is)
-
-after_variant : (m : schedule.RunState) (es : List Event) → (run_state_after m es).variant ≡ m.variant
-unfolding run_state_after next_state
-after_variant m [] = refl
-after_variant m (e ∷ es) = after_variant (next_state m e) es
-
-after_made : (m : schedule.RunState) (es : List Event) → is_some m.world ≡ true → is_some (run_state_after m es).world ≡ true
-unfolding run_state_after next_state
-after_made m [] made = made
-after_made m (e ∷ es) made = after_made (next_state m e) es refl
-
-events_go : (m : schedule.RunState) (es : List Event) (text : List ℕ) → GoesBy m es (On text (with_line_read (run_state_after m es)))
-unfolding GoesBy run_state_after next_state
-events_go m [] text = inl (record { variant = refl; mesh = λ _. refl; world = refl; none = refl; count = refl })
-events_go m (e ∷ es) text = inr (record {
-  variant = after_variant m (e ∷ es);
-  mesh = mesh_after_events m (e ∷ es);
-  made = after_made (next_state m e) es refl;
-  world = world_after_events m (e ∷ es);
-  count = count_after_events m (e ∷ es);
-})
-
 -- ---- one line
 
 -- what holds of a line: its events are of the mesh, and it leads to the state after them
-record Leads (m : schedule.RunState) (es : List Event) (c : LineOutcome) : Type 0 where
-  goes : GoesBy m es c
-  kept : IsKeptCame c
-  usual : UsualList (length m.mesh) es
+pub record Leads (m : schedule.RunState) (es : List Event) (c : LineOutcome) : Type 0 where
+  pub goes : GoesBy m es c
+  pub kept : IsKeptCame c
+  pub usual : UsualList (length m.mesh) es
 
 placing_leads : (reach : ℕ) (m : RunState) (bytes : List ℕ) (new : Placing) → new.node < length m.run.mesh → IsKept m.run
     → Leads m.run (events_of_placing reach m new) (outcome_of_placing reach m bytes new)
@@ -113,7 +85,7 @@ placing_leads reach m bytes new within is = by (may_come m.places new)
         (On (line bytes ++ line (codes "  idle")) (with_line_read m.run)))
     by true = record {
       goes = events_go m.run (changes reach m new) (line bytes ++ flat_map (change_line m.run.mesh) (changes reach m new));
-      kept = counted_kept (run_state_after m.run (changes reach m new)) (after_kept m.run (changes reach m new) usual is);
+      kept = counted_kept (run_state_after m.run (changes reach m new)) (kept_after_events m.run (changes reach m new) usual is);
       usual = usual;
     }
     by false = record {
@@ -157,7 +129,7 @@ line_leads reach m bytes (Ok None) reads within is =
     }
 line_leads reach m bytes (Err f) reads within is = record { goes = refl; kept = tt; usual = tt }
 
-piece_leads : (reach : ℕ) (m : RunState) (piece : Piece) → IsKept m.run → Leads m.run (events_of_piece reach m piece) (outcome_of_piece reach m piece)
+pub piece_leads : (reach : ℕ) (m : RunState) (piece : Piece) → IsKept m.run → Leads m.run (events_of_piece reach m piece) (outcome_of_piece reach m piece)
 unfolding outcome_of_piece text.outcome_of_piece events_of_piece GoesBy IsKeptCame UsualList
 piece_leads reach m (Whole bytes) is = line_leads reach m bytes (placing_of m.run.mesh bytes) refl (comes_in m.run.mesh bytes) is
 piece_leads reach m Long is = record { goes = refl; kept = tt; usual = tt }
@@ -172,7 +144,7 @@ piece_kept reach m piece is = (piece_leads reach m piece is).kept
 abbrev pub run_in : RunText → text.RunText
 run_in w = record { lines = w.lines; last = w.last; verdict = w.verdict; after = w.after.run; complete = w.complete }
 
-goes_in : (m : RunState) (piece : Piece) (c : LineOutcome) (others : RunState → RunText) → text.goes_on m.run c (λ n. run_in (others (next m piece n))) ≡ run_in (goes_on m piece c others)
+pub goes_in : (m : RunState) (piece : Piece) (c : LineOutcome) (others : RunState → RunText) → text.goes_on m.run c (λ n. run_in (others (next m piece n))) ≡ run_in (goes_on m piece c others)
 goes_in m piece (On text n) others = refl
 goes_in m piece (Refused why) others = refl
 goes_in m piece (Full text n e field) others = refl

@@ -155,11 +155,6 @@ pub after-one : (m : schedule.RunState) (e : Event) → run_state_after m (e ∷
 unfolding run_state_after
 after-one m e = refl
 
-pub steps_after : (m : schedule.RunState) (es : List Event) → (run_state_after m es).steps ≡ m.steps + length es
-unfolding run_state_after next_state
-steps_after m [] = omega arith
-steps_after m (e ∷ es) = let rest = steps_after (next_state m e) es in omega arith
-
 pub lines_after : (m : schedule.RunState) (es : List Event) → (run_state_after m es).lines ≡ m.lines
 unfolding run_state_after next_state
 lines_after m [] = refl

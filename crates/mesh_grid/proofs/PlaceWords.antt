@@ -1,5 +1,5 @@
 -- A line about a place is as it is written.
-use Rattle.std.proofs.Common.{◌≡◌, ℕ, Bool, true, false, cond, ◌||◌, eqb, List, [], ◌∷◌, ◌++◌, Option, Some, None, Result, Ok, Err, length, refl, sym, ap, ap₂, subst, ◌∙◌, codes, arith, append_assoc}
+use Rattle.std.proofs.Common.{◌≡◌, ℕ, Bool, true, false, cond, ◌||◌, eqb, List, [], ◌∷◌, Option, Some, None, Result, Ok, Err, length, refl, sym, ap, ap₂, subst, ◌∙◌, codes, arith}
 use Rattle.std.specs.List.{join_with_byte}
 use Rattle.std.specs.Str.{bytes_eq}
 use Rattle.std.specs.Fmt.{decimal}
@@ -14,7 +14,7 @@ use Rattle.aodv_meaning.proofs.Means.{index_there}
 use Rattle.mesh_grammar.specs.declared.fault.LineFault.{LineFault}
 use Rattle.mesh_grammar.specs.declared.fault.LineFault.TheVariants.{Word, BadAddress, BadNumber, Early, Unknown}
 use Rattle.mesh_grammar.specs.Words.{SpannedAddr, span_at, next_at}
-use Rattle.mesh_grammar.proofs.Readings.{with_argument_case, if_case}
+use Rattle.mesh_grammar.proofs.Readings.{with_argument_case, if_case, three_texts}
 use Rattle.mesh_grammar.proofs.Canonical.{number_is_written, address_is_written}
 use Rattle.mesh_text.specs.Lines.{name_of}
 use Rattle.mesh_grid.specs.declared.place.TheConstants.{GREATEST_PLACE}
@@ -70,15 +70,12 @@ IsAsWritten mesh words (Ok (Some new)) = join_with_byte 32 words ≡ place_words
 IsAsWritten mesh words (Ok None) = Unit {0}
 IsAsWritten mesh words (Err f) = Unit {0}
 
-joined : (w a x y : List ℕ) → w ++ 32 ∷ (a ++ 32 ∷ (x ++ 32 ∷ y)) ≡ w ++ 32 ∷ a ++ 32 ∷ x ++ 32 ∷ y
-joined w a x y = simp append_assoc
-
 whole_line : (mesh : Nodes) (first : Bool) (w : List ℕ) (ws : List (List ℕ)) (r : Result (Option Placing) LineFault) → w ≡ cond first (codes "place") (codes "move")
     → WroteIn mesh first ws r → IsAsWritten mesh (w ∷ ws) r
 unfolding WroteIn IsAsWritten
 whole_line mesh first w ws (Ok (Some new)) word wrote =
     ap₂ (λ v vs. join_with_byte 32 (v ∷ vs)) (word ∙ ap (λ b. cond b (codes "place") (codes "move")) (sym wrote.command)) wrote.text
-    ∙ joined (cond new.first (codes "place") (codes "move")) (name_of mesh new.node) (decimal new.place.x) (decimal new.place.y)
+    ∙ three_texts (cond new.first (codes "place") (codes "move")) (name_of mesh new.node) (decimal new.place.x) (decimal new.place.y)
 whole_line mesh first w ws (Ok None) word wrote = tt
 whole_line mesh first w ws (Err f) word wrote = tt
 

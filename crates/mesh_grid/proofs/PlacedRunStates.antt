@@ -1,10 +1,10 @@
 -- What holds in every state of a run with places: its world is the one that the events so far lead to.
-use Rattle.std.proofs.Common.{◌≡◌, ℕ, zero, suc, ◌-◌, List, [], ◌∷◌, ◌++◌, Option, Some, None, length, length-append, append-nil, append_assoc, take, drop, refl, sym, ap, ap₂, subst, ◌∙◌, arith}
+use Rattle.std.proofs.Common.{◌≡◌, ℕ, zero, suc, ◌-◌, List, [], ◌∷◌, ◌++◌, Option, Some, None, length, length-append, append_assoc, take, drop, refl, sym, ap, ap₂, subst, ◌∙◌, arith}
 use Rattle.std.specs.Prelude.{slice_get}
-use Rattle.std.proofs.lemmas.List.{take-append-drop}
-use Rattle.std.proofs.lemmas.Option.{none-some, same_Some}
+use Rattle.std.proofs.lemmas.List.{take-append-drop, take_all}
 use Rattle.std.proofs.Math.Seq.{take-append_seam}
 use Rattle.mesh_base.specs.declared.events.Variant.{Variant}
+use Rattle.mesh_base.proofs.Lemmas.Lists.{drop_from}
 use Rattle.mesh_model.specs.Worlds.{Event, run, start, first_numbers}
 use Rattle.mesh_model.specs.Invariants.{IsLoopSafe}
 use Rattle.mesh_model.proofs.Steps.{run_kept as model_kept}
@@ -55,9 +55,6 @@ record IsReached (v : Variant) (n : schedule.RunState) (all rest : List Event) :
   count : n.sums.events ≡ length front
   split : all ≡ front ++ rest
 
-take_whole : (k : ℕ) (es : List Event) → k ≡ length es → take k es ≡ es
-take_whole k es same = ap (λ j. take j es) same ∙ ap (take (length es)) (sym (append-nil es)) ∙ take-append_seam es []
-
 front_reached : (reach : ℕ) (v : Variant) (input : List ℕ) (i : ℕ) → AreDone reach v input i
     → IsReached v (run_state_at reach v input i).run (events_of_input reach v input) (events_from reach (run_state_at reach v input i) (drop i (pieces_of_input input)))
 unfolding run_state_at events_of_input NotFull Splits
@@ -68,7 +65,7 @@ front_reached reach v input i finished =
     let all = is.all (λ number full. let clash : Finished ≡ FullAt number = sym finished ∙ full in let P : ⊥ = cc in P) in
     record {
       front = front;
-      world = is.world ∙ ap (run (start v (first_numbers n.mesh))) (take_whole (n.sums.events - 0) front (omega arith));
+      world = is.world ∙ ap (run (start v (first_numbers n.mesh))) (take_all (n.sums.events - 0) front (omega arith));
       count = omega arith;
       split = splits reach (opening v) i (pieces_of_input input) finished;
     }
@@ -89,11 +86,6 @@ reached_of_events : (reach : ℕ) (v : Variant) (input : List ℕ) (n : schedule
 reached_of_events reach v input n rest is =
     is.world ∙ ap (run (start v (first_numbers n.mesh))) (sym (ap₂ (λ k es. take k es) is.count is.split ∙ take-append_seam is.front rest))
 
-next_is : (i : ℕ) (pieces : List Piece) (p : Piece) → slice_get pieces i ≡ Some p → drop i pieces ≡ p ∷ drop (suc i) pieces
-next_is i [] p is = absurd (none-some p is)
-next_is zero (q ∷ qs) p is = ap (λ x. x ∷ qs) (same_Some q p is)
-next_is (suc i) (q ∷ qs) p is = next_is i qs p is
-
 begun : (reach : ℕ) (m : RunState) (p : Piece) (ps : List Piece) → events_from reach m (p ∷ ps) ≡ events_of_piece reach m p ++ events_after (outcome_of_piece reach m p) (λ n. events_from reach (next m p n) ps)
 unfolding events_from
 begun reach m p ps = refl
@@ -106,7 +98,7 @@ within_of_events reach v input m i k pieces (Some p) is reached =
     let others : List Event = events_after (outcome_of_piece reach m p) (λ n. events_from reach (next m p n) (drop (suc i) pieces)) in
     let parts : es ≡ take k es ++ drop k es = sym (take-append-drop k es) in
     let split : events_from reach m (drop i pieces) ≡ take k es ++ (drop k es ++ others) =
-    ap (events_from reach m) (next_is i pieces p is) ∙ begun reach m p (drop (suc i) pieces) ∙ ap (λ l. l ++ others) parts ∙ append_assoc (take k es) (drop k es) others in
+    ap (events_from reach m) (drop_from pieces i p is) ∙ begun reach m p (drop (suc i) pieces) ∙ ap (λ l. l ++ others) parts ∙ append_assoc (take k es) (drop k es) others in
     reached_of_events reach v input (run_state_after m.run (take k es)) (drop k es ++ others)
     (reached_more v m.run (events_of_input reach v input) (events_from reach m (drop i pieces)) (take k es) (drop k es ++ others) split reached)
 

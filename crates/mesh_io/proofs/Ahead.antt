@@ -1,8 +1,8 @@
 -- The bytes to come: those that are pending, and those that the source has left.
 use Rattle.std.proofs.Common.{◌≡◌, ℕ, ◌+◌, ◌≤◌, Bool, true, false, List, [], ◌++◌, take, drop, Option, Some, None, refl, sym, ap, subst, ◌∙◌, arith}
-use Rattle.std.proofs.lemmas.List.{take-append-drop, take-take, drop-take}
+use Rattle.std.proofs.lemmas.List.{take-append-drop, take-take, drop-take, append-nil}
 use Rattle.std.specs.Option.{IfSome}
-use Rattle.std.specs.Io.KnownBytes.{prepend_known, Keeps, IsAtEnd}
+use Rattle.std.specs.Io.KnownBytes.{prepend_known, Appends, Keeps, IsAtEnd}
 use Rattle.mesh_io.specs.NextLines.{first_line, TooLong, TooMuch, next_of, known_after}
 use Rattle.mesh_io.specs.Decisions.{decision_of}
 use Rattle.mesh_io.specs.Cutting.{FindsLine}
@@ -38,6 +38,11 @@ Keeps-join None b c p q = tt
 Keeps-join (Some x) None c p q = absurd p
 Keeps-join (Some x) (Some y) None p q = absurd q
 Keeps-join (Some x) (Some y) (Some z) p q = q ∙ p
+
+pub Keeps-if : (a b : Option (List ℕ)) → Appends a b [] → Keeps a b
+Keeps-if None b h = tt
+Keeps-if (Some x) None h = h
+Keeps-if (Some x) (Some y) h = h ∙ append-nil x
 
 -- ---- what is told
 

@@ -3,7 +3,6 @@ use Rattle.std.proofs.Common.{◌≡◌, ℕ, zero, suc, ◌+◌, ◌-◌, ◌<�
 use Rattle.std.specs.Prelude.{nat_lt}
 use Rattle.std.specs.List.{onto_first}
 use Rattle.std.proofs.lemmas.Bool.Decides.{nat_tests}
-use Rattle.std.proofs.lemmas.List.Splits.{length-slice_split}
 use Rattle.mesh_base.specs.Parts.{parts}
 use Rattle.mesh_io.specs.NextLines.{FirstLine, first_line, with_byte}
 
@@ -69,9 +68,6 @@ parts_past (b ∷ bs) (suc r) past = by_test (eqb b 10) (first_line bs) (parts_p
         → cond t ([] ∷ parts 10 (take r bs)) (onto_first b (parts 10 (take r bs))) ≡ (b ∷ take r bs) ∷ []
     by_test true f h past = absurd (let low : suc r ≤ 0 = past refl in omega arith)
     by_test false f h past = ap (onto_first b) (h (λ e. let low = past e in omega arith))
-
-pub some_parts : (bytes : List ℕ) → 1 ≤ length (parts 10 bytes)
-some_parts bytes = omega (arith, length-slice_split (λ b. eqb b 10) bytes)
 
 -- ---- whether there is room
 

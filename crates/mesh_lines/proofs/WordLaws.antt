@@ -1,31 +1,29 @@
 -- A word is not alone where others stand behind it.
 use Rattle.std.proofs.Common.{◌≡◌, ℕ, ◌≤◌, Bool, true, false, List, [], ◌∷◌, length, Option, Some, None, refl, arith, ◌∙◌, cond, zero, suc, ap, sym, ◌&&◌, ◌<◌, drop, not}
 use Rattle.std.specs.Prelude.{is_some}
-use Rattle.std.proofs.lemmas.List.Splits.{length-slice_split, join_with_byte-slice_split}
-use Rattle.std.proofs.Common.{eqb}
+use Rattle.std.proofs.lemmas.List.Splits.{join_with_byte-slice_split}
 use Rattle.std.specs.List.{join_with_byte}
 use Rattle.std.specs.Borrow.{Bor}
 use Rattle.mesh_base.specs.Parts.{parts, rest_parts}
 use Rattle.mesh_lines.specs.declared.form.Field.{Field}
 use Rattle.mesh_lines.specs.Lines.{is_full, is_full_by, is_refusal, is_refusal_by}
 use Rattle.mesh_base.specs.Addresses.{address_of}
-use Rattle.mesh_base.specs.Numbers.{number_up_to, positive}
+use Rattle.mesh_base.specs.Numbers.{number_up_to}
 use Rattle.mesh_base.proofs.AddressLaws.{address_word, number_word}
+use Rattle.mesh_base.proofs.Lemmas.Lists.{some_parts}
 use Rattle.mesh_grammar.specs.Commands.{greatest_id}
+use Rattle.mesh_grammar.proofs.Canonical.{positive_is}
 use Rattle.std.proofs.lemmas.Option.{none-some}
 use Rattle.mesh_lines.specs.Forms.{alone, are, text_behind, is_address}
 use Rattle.mesh_lines.specs.Belows.{number_of}
 use Rattle.mesh_lines.specs.Words.{one_word, two_words, three_words}
-
-some_part : (sep : ℕ) (bytes : List ℕ) → 1 ≤ length (parts sep bytes)
-some_part sep bytes = omega (arith, length-slice_split (λ (b : ℕ). eqb b sep) bytes)
 
 more_than_one : (word : List ℕ) (words : List (List ℕ)) → 1 ≤ length words → one_word (word ∷ words) ≡ None
 more_than_one word [] h = absurd (omega arith)
 more_than_one word (next ∷ words) h = refl
 
 pub not_one : (sep : ℕ) (word rest : List ℕ) → one_word (word ∷ parts sep rest) ≡ None
-not_one sep word rest = more_than_one word (parts sep rest) (some_part sep rest)
+not_one sep word rest = more_than_one word (parts sep rest) (some_parts sep rest)
 
 some_words : (words : List (List ℕ)) → 1 ≤ length words → are [] words ≡ false
 some_words [] h = absurd (omega arith)
@@ -46,7 +44,7 @@ past (field ∷ fields) (suc k) le = past fields k (omega arith)
 
 -- words are left
 pub not_all_words : (rest : List ℕ) → are [] (parts 32 rest) ≡ false
-not_all_words rest = some_words (parts 32 rest) (some_part 32 rest)
+not_all_words rest = some_words (parts 32 rest) (some_parts 32 rest)
 
 pub all_read : (rest : Option (Bor (List ℕ))) (none : Bool) → is_some rest ≡ not none → are [] (rest_parts 32 rest) ≡ none
 all_read None true is = refl
@@ -63,7 +61,7 @@ joined from to (word ∷ words) h = refl
 pub text_of_ends : (from to text : List ℕ)
     → text_behind (from ∷ to ∷ parts 32 text) ≡ cond (is_address from && is_address to) (Some text) None
 text_of_ends from to text =
-    joined from to (parts 32 text) (some_part 32 text) ∙ rw (join_with_byte-slice_split 32 text) refl
+    joined from to (parts 32 text) (some_parts 32 text) ∙ rw (join_with_byte-slice_split 32 text) refl
 
 -- there are no two words with others behind them
 pub no_ends : (from : List ℕ) → text_behind (from ∷ []) ≡ None
@@ -89,15 +87,10 @@ by_word read text word (Some n) is = rw (word n is) refl
 pub only_address : (text : List ℕ) → alone address_of (parts 32 text) ≡ address_of text
 only_address text = by_word address_of text (address_word text) (address_of text) refl
 
-number_is : (found : Option ℕ) (n : ℕ) → positive found ≡ Some n → found ≡ Some n
-number_is None n h = h
-number_is (Some zero) n h = absurd (none-some _ h)
-number_is (Some (suc k)) n h = h
-
 -- nor has a number
 pub only_number : (text : List ℕ) → alone number_of (parts 32 text) ≡ number_of text
 only_number text =
-    by_word number_of text (λ n is. number_word greatest_id text n (number_is (number_up_to greatest_id text) n is)) (number_of text) refl
+    by_word number_of text (λ n is. number_word greatest_id text n (positive_is (number_up_to greatest_id text) n is)) (number_of text) refl
 
 -- ---- the parts between colons
 

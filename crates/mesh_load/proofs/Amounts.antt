@@ -1,5 +1,5 @@
 -- The data of a world that was read are those that were counted in its checkpoint.
-use Rattle.std.proofs.Common.{◌≡◌, ◌≢◌, ℕ, zero, suc, ◌+◌, ◌<◌, Bool, true, false, ◌&&◌, eq-eqb, List, [], ◌∷◌, length, map, Option, Some, None, refl, sym, ap, ◌∙◌, arith}
+use Rattle.std.proofs.Common.{◌≡◌, ◌≢◌, ℕ, zero, suc, ◌+◌, ◌<◌, true, false, ◌&&◌, eq-eqb, List, [], ◌∷◌, length, map, Option, Some, None, refl, sym, ap, ◌∙◌, arith}
 use Rattle.std.specs.Prelude.{T, nat_le, nat_lt}
 use Rattle.std.specs.List.{AllByRecursion, sum_by}
 use Rattle.std.specs.Ordering.{nat_cmp, is_lt, is_eq}
@@ -17,16 +17,17 @@ use Rattle.mesh_base.specs.declared.events.Flying.{Flying}
 use Rattle.mesh_base.specs.declared.events.Item.{Item}
 use Rattle.mesh_base.specs.declared.events.Item.TheVariants as item
 use Rattle.mesh_base.specs.declared.events.Variant.{Variant}
+use Rattle.mesh_base.proofs.Lemmas.Bools.{left_of_both, right_of_both}
 use Rattle.aodv_wire.specs.declared.message.Message as wire
 use Rattle.aodv_wire.specs.declared.message.Message.TheVariants as messages
 use Rattle.aodv_wire.specs.Encodes.{message_in_fields}
-use Rattle.aodv_model.specs.Cores.{Body, Store, Waiting, bodies_in}
+use Rattle.aodv_model.specs.Cores.{Store, Waiting, bodies_in}
 use Rattle.aodv_meaning.specs.Meaning.{meaning, in_mesh}
 use Rattle.aodv_meaning.specs.Effects.{item_in}
 use Rattle.aodv_node.specs.Seen.{NodeSeen}
 use Rattle.mesh_model.specs.Worlds.{first_numbers}
-use Rattle.mesh_model.specs.Accounts.{any, total, total_below, counts, in_message, in_item, in_store, in_copy, waiting, queued_data, in_flight}
-use Rattle.mesh_model.proofs.Totals.{total_below_same, total_below_change}
+use Rattle.mesh_model.specs.Accounts.{any, total, total_below, in_message, in_item, in_store, in_copy, waiting, queued_data, in_flight}
+use Rattle.mesh_model.proofs.Totals.{total_below_same, total_below_change, all_count}
 use Rattle.mesh_model.proofs.AccountSteps.{start_empty}
 use Rattle.mesh_meaning.specs.Packets.{IsWritten, copy_in}
 use Rattle.mesh_radio.specs.Radios.{RadioState}
@@ -47,14 +48,6 @@ use Rattle.mesh_checkpoint.specs.Seen.{listed_node}
 
 -- ---- entries by rising destination
 
-first_of_both : (a b : Bool) → T (a && b) → T a
-first_of_both true b p = tt
-first_of_both false b p = p
-
-second_of_both : (a b : Bool) → T (a && b) → T b
-second_of_both true b p = p
-second_of_both false b p = absurd p
-
 apart : (o : Ordering) → T (is_lt o) → is_eq o ≡ false
 apart Less p = refl
 apart Equal p = absurd p
@@ -63,7 +56,7 @@ apart Greater p = refl
 -- a key below all others is none of them
 none_above : (k : ℕ) (es : List (ℕ × Waiting)) → T (below_all nat_cmp k es) → find nat_cmp k es ≡ None
 none_above k [] below = refl
-none_above k (e ∷ es) below = rw (apart (nat_cmp k e.0) (first_of_both _ _ below)) (none_above k es (second_of_both _ _ below))
+none_above k (e ∷ es) below = rw (apart (nat_cmp k e.0) (left_of_both _ _ below)) (none_above k es (right_of_both _ _ below))
 
 -- how many data wait for a destination
 abbrev data_for : List (ℕ × Waiting) → ℕ → ℕ
@@ -85,17 +78,13 @@ entries_total size [] sorted below = none_for size
 entries_total size (e ∷ es) sorted below =
     let change : total_below size (data_for (e ∷ es)) + data_for es e.0 ≡ total_below size (data_for es) + data_for (e ∷ es) e.0 =
     total_below_change size e.0 (data_for (e ∷ es)) (data_for es) (elsewhere e es) below.0 in
-    let none : data_for es e.0 ≡ 0 = ap (λ o. length (bodies_in o)) (none_above e.0 es (first_of_both _ _ sorted)) in
+    let none : data_for es e.0 ≡ 0 = ap (λ o. length (bodies_in o)) (none_above e.0 es (left_of_both _ _ sorted)) in
     let this : data_for (e ∷ es) e.0 ≡ data_waiting (waits_of e) = here e es in
-    let rest : total_below size (data_for es) ≡ sum_by data_waiting (map waits_of es) = entries_total size es (second_of_both (below_all nat_cmp e.0 es) (is_sorted nat_cmp es) sorted) below.1 in
+    let rest : total_below size (data_for es) ≡ sum_by data_waiting (map waits_of es) = entries_total size es (right_of_both (below_all nat_cmp e.0 es) (is_sorted nat_cmp es) sorted) below.1 in
     let more : sum_by data_waiting (waits_of e ∷ map waits_of es) ≡ data_waiting (waits_of e) + sum_by data_waiting (map waits_of es) = sum_by-cons data_waiting (waits_of e) (map waits_of es) in
     omega arith
 
 -- ---- the store of a node
-
-all_count : (x d : ℕ) (bs : List Body) → total (counts any x d) bs ≡ length bs
-all_count x d [] = refl
-all_count x d (b ∷ bs) = let rest : total (counts any x d) bs ≡ length bs = all_count x d bs in omega arith
 
 -- what fits a mesh of so many nodes is for one of them
 below_size : (size : ℕ) (es : List (ℕ × Waiting)) → all_fit (model.waits size).fits (map waits_of es) ≡ true → AllByRecursion (λ e. e.0 < size) es

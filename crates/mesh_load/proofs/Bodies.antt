@@ -1,12 +1,10 @@
 -- The body of a state that was read is the body that it was read from.
 use Rattle.std.proofs.Common.{◌≡◌, ℕ, List, [], ◌∷◌, map, Some, None, refl, sym, ap, ◌∙◌}
 use Rattle.std.specs.List.{AllByRecursion}
-use Rattle.mesh_base.specs.declared.events.Item as items
-use Rattle.mesh_base.specs.declared.events.Item.TheVariants as item
 use Rattle.mesh_base.specs.declared.events.Variant.{Variant}
 use Rattle.mesh_base.specs.Meshes.{Nodes}
 use Rattle.aodv_node.specs.Seen.{NodeSeen}
-use Rattle.mesh_meaning.specs.Packets.{IsWrittenItem, copy_in}
+use Rattle.mesh_meaning.specs.Packets.{copy_in}
 use Rattle.mesh_radio.specs.Radios.{RadioState}
 use Rattle.mesh_sound.specs.Packets.{InItem}
 use Rattle.mesh_sound.specs.Claims.{Holds}
@@ -14,6 +12,7 @@ use Rattle.mesh_sound.specs.declared.packets.Claim.TheVariants as claims
 use Rattle.mesh_world.specs.Seen.{node_in}
 use Rattle.mesh_world.specs.Kept.{world_in, seen_of}
 use Rattle.mesh_world.specs.Restored.{AreWritten}
+use Rattle.mesh_world.proofs.Restoring.{written_items}
 use Rattle.mesh_text.specs.Schedule.{Sums}
 use Rattle.mesh_run.specs.RunStates.{run_state_seen}
 use Rattle.mesh_checkpoint.specs.declared.body.Head.{Head}
@@ -46,15 +45,10 @@ pub record IsWorldOf (nodes : List NodeSeen) (radio : RadioState) (steps : ℕ) 
 
 -- ---- packets
 
-items_written : (mesh : Nodes) (nodes : List NodeSeen) (is : List items.Item) → AllByRecursion (InItem (Holds claims.Written mesh nodes)) is → AllByRecursion (IsWrittenItem mesh) is
-items_written mesh nodes [] all = tt
-items_written mesh nodes (item.New dest body ∷ is) all = (tt, items_written mesh nodes is all.1)
-items_written mesh nodes (item.Heard from bytes ∷ is) all = (all.0, items_written mesh nodes is all.1)
-
 nodes_again : (mesh : Nodes) (nodes ns : List NodeSeen) → AllByRecursion (λ n. AllByRecursion (InItem (Holds claims.Written mesh nodes)) n.items) ns → map (node_of mesh) (map (node_in mesh) ns) ≡ map listed_node ns
 nodes_again mesh nodes [] all = refl
 nodes_again mesh nodes (n ∷ ns) all =
-    let first : node_of mesh (node_in mesh n) ≡ listed_node n = node_again mesh n (items_written mesh nodes n.items all.0) in
+    let first : node_of mesh (node_in mesh n) ≡ listed_node n = node_again mesh n (written_items mesh nodes n.items all.0) in
     let others : map (node_of mesh) (map (node_in mesh) ns) ≡ map listed_node ns = nodes_again mesh nodes ns all.1 in
     λ i. first i ∷ others i
 

@@ -1,53 +1,22 @@
 -- The parts of a body, one after another.
-use Rattle.std.proofs.Common.{◌≡◌, ◌≢◌, ℕ, zero, suc, ◌<◌, ◌≤◌, Bool, true, false, cond, List, [], ◌∷◌, length, Option, Some, None, refl, sym, ap, subst, ◌∙◌, arith}
-use Rattle.std.specs.Prelude.{IfSome, nat_le, nat_lt}
-use Rattle.std.proofs.lemmas.Bool.{and_parts, ltb-true}
-use Rattle.std.proofs.lemmas.Option.{none-some, same_Some}
+use Rattle.std.proofs.Common.{◌≡◌, ◌≢◌, ℕ, zero, suc, ◌≤◌, true, false, List, [], ◌∷◌, length, Option, Some, None, refl, sym, ap, subst, ◌∙◌, arith}
+use Rattle.std.specs.Prelude.{IfSome}
+use Rattle.std.proofs.lemmas.Option.{same_Some}
 use Rattle.mesh_base.specs.Meshes.{Nodes}
 use Rattle.mesh_base.specs.declared.events.Variant.{Variant}
 use Rattle.mesh_world.specs.Seen.{WorldSeen}
 use Rattle.mesh_checkpoint.specs.declared.body.Head.{Head}
-use Rattle.mesh_checkpoint.specs.Formats.{◌>>=◌, byte_at, is_from, get_maybe, maybe}
+use Rattle.mesh_checkpoint.specs.Formats.{◌>>=◌, byte_at, maybe}
 use Rattle.mesh_checkpoint.specs.Checkpoint as model
 use Rattle.mesh_checkpoint.specs.Checkpoint.{World, Body, has_nodes}
 use Rattle.mesh_load.specs.declared.error.StateError.{StateError}
 use Rattle.mesh_load.specs.declared.error.StateError.TheVariants as errors
 use Rattle.mesh_load.specs.Loading.{IsUnsoundWorld}
 use Rattle.mesh_load.specs.Parts.{IsMade, IsRefusalOf, IsFitting, IsWorldFrom, IsMaybeWorldFrom, IsUnsoundIfWorld}
-use Rattle.mesh_load.proofs.WorldParts.{bind_some}
-use Rattle.mesh_checkpoint.proofs.Behind.{IsKind, maybe_none_at}
+use Rattle.mesh_checkpoint.proofs.Behind.{maybe_first, maybe_second}
+use Rattle.mesh_checkpoint.proofs.Formats.{bind_some}
 
 -- ---- a world, or none, behind the byte that says so
-
-kind_of : (bytes : List ℕ) (k : ℕ) (rest : List ℕ) → byte_at 0 2 bytes ≡ Some (k, rest) → IsKind bytes k rest
-kind_of [] k rest e = absurd (none-some (k, rest) e)
-kind_of (b ∷ bytes) k rest e = at (is_from 0 2 b) refl e
-  where
-    at : (t : Bool) → is_from 0 2 b ≡ t → cond {A = Option (ℕ × List ℕ)} t (Some (b, bytes)) None ≡ Some (k, rest) → IsKind (b ∷ bytes) k rest
-    at true is same =
-        let both : ◌≡◌ {A = ℕ × List ℕ} (b, bytes) (k, rest) = same_Some (b, bytes) (k, rest) same in
-        let lt : b < 2 = ltb-true b 2 (and_parts (nat_le 0 b) (nat_lt b 2) is).1 in
-        let one : b ≡ k = ap (λ (p : ℕ × List ℕ). p.0) both in
-        record { parts = ap (λ (p : ℕ × List ℕ). p.0 ∷ p.1) both; two = omega (arith, lt, one) }
-    at false is none = absurd (none-some (k, rest) none)
-
-pub no_kind : {A : Type 0} (may : Bool) (get : List ℕ → Option (A × List ℕ)) (bytes : List ℕ) → byte_at 0 2 bytes ≡ None → get_maybe may get bytes ≡ None
-no_kind may get [] e = refl
-no_kind may get (b ∷ bytes) e = maybe_none_at may get b bytes e
-
-pub absent : {A : Type 0} (may : Bool) (get : List ℕ → Option (A × List ℕ)) (bytes : List ℕ) (k : ℕ) (rest : List ℕ) → byte_at 0 2 bytes ≡ Some (k, rest) → k ≡ 0 → get_maybe may get bytes ≡ Some (None, rest)
-absent may get bytes k rest e zeroth =
-    let is = kind_of bytes k rest e in
-    rw (is.parts, zeroth) refl
-
-second : (k : ℕ) → k < 2 → k ≢ 0 → k ≡ 1
-second k lt some = omega (arith, some)
-
-there : {A : Type 0} (may : Bool) (get : List ℕ → Option (A × List ℕ)) (bytes : List ℕ) (k : ℕ) (rest : List ℕ) → byte_at 0 2 bytes ≡ Some (k, rest) → k ≢ 0
-    → get_maybe may get bytes ≡ cond may (get rest >>= λ x. Some (Some x.0, x.1)) None
-there may get bytes k rest e some =
-    let is = kind_of bytes k rest e in
-    rw (is.parts, second k is.two some) refl
 
 has_none : (nodes : Nodes) → nodes ≡ [] → has_nodes nodes ≡ false
 has_none nodes none = ap has_nodes none
@@ -69,11 +38,11 @@ some_world x = Some (Some x.0, x.1)
 
 pub world_of_none : (nodes : Nodes) (bytes : List ℕ) (k : ℕ) (rest : List ℕ) → byte_at 0 2 bytes ≡ Some (k, rest) → k ≢ 0 → nodes ≡ [] → read_maybe nodes bytes ≡ None
 world_of_none nodes bytes k rest e some none =
-    there (has_nodes nodes) (model.world (length nodes)).get bytes k rest e some ∙ rw (has_none nodes none) refl
+    maybe_second (has_nodes nodes) (model.world (length nodes)).get bytes k rest e some ∙ rw (has_none nodes none) refl
 
 there_is : (nodes : Nodes) (bytes : List ℕ) (k : ℕ) (rest : List ℕ) → byte_at 0 2 bytes ≡ Some (k, rest) → k ≢ 0 → nodes ≢ [] → read_maybe nodes bytes ≡ ((model.world (length nodes)).get rest >>= some_world)
 there_is nodes bytes k rest e some nodes_some =
-    there (has_nodes nodes) (model.world (length nodes)).get bytes k rest e some ∙ rw (has_some nodes nodes_some) refl
+    maybe_second (has_nodes nodes) (model.world (length nodes)).get bytes k rest e some ∙ rw (has_some nodes nodes_some) refl
 
 -- the world that is there is as it should be
 of_some : (size : ℕ) (o : Option (World × List ℕ)) → IfSome (o >>= some_world) (λ x. IfSome x.0 (IsFitting size)) → IfSome o (λ x. IsFitting size x.0)
@@ -110,7 +79,7 @@ pub none_made : (nodes : Nodes) (variant : Variant) (bytes : List ℕ) (k : ℕ)
 none_made nodes variant bytes k rest is zeroth = record {
   found = None;
   rest = rest;
-  read_is = absent (has_nodes nodes) (model.world (length nodes)).get bytes k rest is zeroth;
+  read_is = maybe_first (has_nodes nodes) (model.world (length nodes)).get bytes k rest is zeroth;
   made = tt;
 }
 

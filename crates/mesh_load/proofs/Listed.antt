@@ -1,6 +1,6 @@
 -- A listing is of one node: nodes of the same index with the same listing have the same core and the same items.
 use Rattle.std.proofs.Common.{◌≡◌, ℕ, zero, suc, ◌<◌, ◌≤◌, Bool, true, false, cond, eqb, List, [], ◌∷◌, ◌++◌, length, map, Option, Some, None, refl, sym, ap, subst, ◌∙◌, arith, inl, inr}
-use Rattle.std.specs.Prelude.{◌||◌, is_some, option_map, slice_get, unwrap_or}
+use Rattle.std.specs.Prelude.{option_map, slice_get, unwrap_or}
 use Rattle.std.specs.List.{list_any}
 use Rattle.std.specs.Ordering.{nat_cmp, eq_by_cmp}
 use Rattle.std.specs.Cmp.{nat_cmp_total, unsigned_tied}
@@ -23,6 +23,7 @@ use Rattle.aodv_model.specs.Pairs.{Pairs, pair_cmp, as_keys, pairs_in}
 use Rattle.aodv_model.specs.Cores.{Core, Store, Waiting}
 use Rattle.aodv_model.specs.Soundness.{AreBelow}
 use Rattle.aodv_model.proofs.PairLaws.{pair_cmp_total, same_pair}
+use Rattle.aodv_model.proofs.PairKeys.{get-as_keys}
 use Rattle.aodv_node.specs.Seen.{NodeSeen}
 use Rattle.aodv_node.specs.Restored.{HasSoundCore}
 use Rattle.mesh_checkpoint.specs.Checkpoint.{Route, Node}
@@ -61,7 +62,7 @@ same_below (suc n) s t same q lt =
           rw is both.0
     ]
 
-past_all : (n : ℕ) (s : NodeIds) (q : ℕ) → AreBelow n s → n ≤ q → sets.contains s q ≡ false
+pub past_all : (n : ℕ) (s : NodeIds) (q : ℕ) → AreBelow n s → n ≤ q → sets.contains s q ≡ false
 past_all n s q below past = at (sets.contains s q) refl
   where
     at : (b : Bool) → sets.contains s q ≡ b → b ≡ false
@@ -76,18 +77,9 @@ one_set s t below under same = sets.same_set nat_cmp_total nat_cmp-IsAntisymmetr
 
 -- ---- the pairs of a set
 
-one_mark : (m : FinMap pair_cmp (Unit {0})) (p q : ℕ × ℕ) → is_some (maps.get (maps.insert m p tt) q) ≡ (eq_by_cmp pair_cmp q p || is_some (maps.get m q))
-one_mark m p q =
-    ap is_some (maps.get-insert pair_cmp_total m p tt q)
-    ∙ elim (eq_by_cmp pair_cmp q p) as (λ b. is_some (cond b (Some tt) (maps.get m q)) ≡ (b || is_some (maps.get m q))) [ true ↦ refl | false ↦ refl ]
-
-marks : (ps : List (ℕ × ℕ)) (q : ℕ × ℕ) → is_some (maps.get (as_keys ps) q) ≡ list_any (eq_by_cmp pair_cmp q) ps
-marks [] q = ap is_some (maps.get-empty pair_cmp q)
-marks (p ∷ ps) q = one_mark (as_keys ps) p q ∙ ap (λ (b : Bool). eq_by_cmp pair_cmp q p || b) (marks ps q)
-
 pub pairs-contains : (s : Pairs) (q : ℕ × ℕ) → sets.contains s q ≡ list_any (eq_by_cmp pair_cmp q) (pairs_in s)
 unfolding pairs_in
-pairs-contains s q = sets.contains-items s q ∙ sym (marks (sets.items s) q) ∙ maps.contains_key-keys (as_keys (sets.items s)) q
+pairs-contains s q = sets.contains-items s q ∙ sym (get-as_keys (sets.items s) q) ∙ maps.contains_key-keys (as_keys (sets.items s)) q
 
 pub one_pairs : (s t : Pairs) → pairs_in s ≡ pairs_in t → s ≡ t
 one_pairs s t same = sets.same_set pair_cmp_total same_pair s t (λ q.

@@ -83,7 +83,7 @@ pub is_state : (b rest : List ℕ) (n : ℕ) (m : RunState) → WrittenIsRead �
 is_state b rest n m again s is made =
     subst (IsCheckpoint b) (found_is b rest n m again s is made ∙ sym (made.made).body_is) s.checkpoint
 
-unsound_if : (mesh : Nodes) (variant : Variant) (o : Option World) (w : World) (part : Part) → o ≡ Some w → IsUnsoundWorld mesh variant w part → IsUnsoundIfWorld mesh variant o part
+pub unsound_if : (mesh : Nodes) (variant : Variant) (o : Option World) (w : World) (part : Part) → o ≡ Some w → IsUnsoundWorld mesh variant w part → IsUnsoundIfWorld mesh variant o part
 unsound_if mesh variant o w part is unsound = subst (λ (p : Option World). IsUnsoundIfWorld mesh variant p part) (sym is) unsound
 
 pub unrefused : (b rest : List ℕ) (n : ℕ) (m : RunState) (e : StateError) → WrittenIsRead → OneBody → BalancedIsTaken → IsValidated b n → rest ≡ drop 8 b → IsMade IsRunStateOf (body.get rest) m → IsRefused b e → e ≡ errors.NoMemory

@@ -26,6 +26,7 @@ use Rattle.mesh_checkpoint.specs.Checkpoint as model
 use Rattle.mesh_checkpoint.specs.Checkpoint.{World, Body, has_nodes}
 use Rattle.mesh_checkpoint.specs.Counts.{data_in, IsBalanced}
 use Rattle.mesh_checkpoint.specs.Points.{body_of}
+use Rattle.mesh_checkpoint.proofs.Formats.{bind_some}
 use Rattle.mesh_load.specs.declared.error.StateError.{StateError}
 use Rattle.mesh_load.specs.declared.error.StateError.TheVariants as errors
 use Rattle.mesh_load.specs.RunStates.{IsPlainWorld, HasPlainWorld, IsPlainRunState}
@@ -35,7 +36,7 @@ use Rattle.mesh_load.proofs.Amounts.{AreSumsOf, balanced_made, balanced_unmade}
 use Rattle.mesh_load.proofs.Bodies.{IsWorldOf, body_again, body_without_world}
 use Rattle.mesh_load.proofs.Sound.{none_unsound_if}
 use Rattle.mesh_load.proofs.RunStates.{plain_in}
-use Rattle.mesh_load.proofs.WorldParts.{bind_some, world_ranges}
+use Rattle.mesh_load.proofs.WorldParts.{world_ranges}
 use Rattle.mesh_load.proofs.BodyParts.{read_maybe, as_body, body_at}
 
 abbrev body_with : Head → Nodes → Option World → Body

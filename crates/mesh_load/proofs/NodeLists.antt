@@ -4,7 +4,9 @@ use Rattle.std.specs.Prelude.{slice_get, option_map, unwrap_or}
 use Rattle.std.specs.List.{AllByRecursion}
 use Rattle.std.proofs.lemmas.List.{map_push, length_push, length-map}
 use Rattle.std.proofs.lemmas.Option.{slice_get-map}
+use Rattle.std.proofs.lemmas.Bool.{true≢false}
 use Rattle.mesh_base.specs.declared.events.Variant.{Variant}
+use Rattle.mesh_base.proofs.Lemmas.Lists.{still_at}
 use Rattle.aodv_node.specs.declared.answers.Unfit.{Unfit}
 use Rattle.aodv_node.specs.declared.answers.Unfit.TheVariants as unfits
 use Rattle.aodv_node.specs.Seen.{NodeSeen}
@@ -40,14 +42,6 @@ at_index P x (m ∷ ms) (suc i) all lt =
     let later = at_index P (x + 1) ms i all.1 (omega (arith, lt)) in
     (later.0, later.1, let same : x + 1 + i ≡ x + suc i = omega arith in subst (λ (k : ℕ). P k later.0) same later.2)
 
-never_some : {X : Type 0} (x : X) → None ≡ Some x → ⊥
-never_some x h = cc
-
-left : {X : Type 0} (xs ys : List X) (i : ℕ) (x : X) → slice_get xs i ≡ Some x → slice_get (xs ++ ys) i ≡ Some x
-left [] ys i x is = absurd (never_some x is)
-left (z ∷ zs) ys zero x is = is
-left (z ∷ zs) ys (suc i) x is = left zs ys i x is
-
 middle : {X : Type 0} (xs ys : List X) (x : X) (i : ℕ) → i ≡ length xs → slice_get (xs ++ x ∷ ys) i ≡ Some x
 middle [] ys x zero at = refl
 middle [] ys x (suc i) at = absurd (omega (arith, at))
@@ -63,9 +57,6 @@ pub record AreReadSoFar (variant : Variant) (size i : ℕ) (bytes : List ℕ) (n
   pub kept : in_place ≡ true → (nodes ≡ parts) × AllByRecursion HasItemsAt parts
   pub misplaced : in_place ≡ false → ¬ (AllByRecursion HasItemsAt parts)
 
-true_false : true ≡ false → ⊥
-true_false h = cc
-
 pub none_read : (variant : Variant) (size : ℕ) (bytes : List ℕ) (nodes : List NodeSeen) → nodes ≡ [] → AreReadSoFar variant size 0 bytes nodes true bytes
 none_read variant size bytes nodes none = record {
   parts = [];
@@ -73,7 +64,7 @@ none_read variant size bytes nodes none = record {
   count = refl;
   each = tt;
   kept = λ t. (none, tt);
-  misplaced = λ f. absurd (true_false f);
+  misplaced = λ f. absurd (true≢false f);
 }
 
 -- what is answered of the parts that were read
@@ -106,7 +97,7 @@ one_misplaced variant size i bytes nodes in_place rest n behind lt read mine sou
   so_far = rw (map_push listed_node a.parts n) (one_more (model.node size).get size i bytes (map listed_node a.parts) rest (listed_node n) behind lt read a.so_far);
   count = length_push a.parts n ∙ ap (λ (k : ℕ). k + 1) a.count;
   each = all_from_push (IsSoundNodeAt variant size) 0 i a.parts n a.each (omega (arith, a.count)) (mine, sound);
-  kept = λ t. absurd (true_false (sym t));
+  kept = λ t. absurd (true≢false (sym t));
   misplaced = λ f all. items (at_last HasItemsAt a.parts n all);
 }
 
@@ -148,6 +139,6 @@ least_unsound variant size i bytes nodes in_place rest n behind lt read mine bel
           let same : 0 + y ≡ y = omega arith in
           let p : IsSoundNodeAt variant size y at.0 = subst (λ (k : ℕ). IsSoundNodeAt variant size k at.0) same at.2 in
           let there : slice_get lists y ≡ Some (listed_node at.0) =
-          ap (λ (ls : List Node). slice_get ls y) so.1 ∙ left (map listed_node a.parts) (listed_node n ∷ so.0) y (listed_node at.0) (slice_get-map listed_node a.parts y ∙ ap (option_map listed_node) at.1) in
+          ap (λ (ls : List Node). slice_get ls y) so.1 ∙ still_at (map listed_node a.parts) (listed_node n ∷ so.0) y (listed_node at.0) (slice_get-map listed_node a.parts y ∙ ap (option_map listed_node) at.1) in
           (at.0, record { mine = p.0; below = precursors_below at.0 size (p.0).size_is p.1; listed_is = there }, p.1),
     )

@@ -1,14 +1,13 @@
 -- After the lines of any input the state is plain: its messages are what their packets mean.
-use Rattle.std.proofs.Common.{◌≡◌, ℕ, zero, suc, ◌+◌, ◌<◌, ◌≤◌, inl, inr, true, List, [], ◌∷◌, length, get_or, take, Option, Some, None, is_some, refl, sym, subst, ◌∙◌, arith}
+use Rattle.std.proofs.Common.{◌≡◌, ℕ, ◌≤◌, inl, inr, true, List, [], ◌∷◌, length, take, Option, Some, None, is_some, refl, sym, subst, ◌∙◌, arith}
 use Rattle.std.specs.Prelude.{⊤}
 use Rattle.std.specs.Option.{unwrap_or}
 use Rattle.std.specs.List.{AllByRecursion}
-use Rattle.std.proofs.lemmas.List.{length-map, get_or_default}
-use Rattle.std.proofs.lemmas.List.Elements.{recursion_from_All}
-use Rattle.std.proofs.lemmas.Map.Steps.{length-le_from_distinct_below}
+use Rattle.std.proofs.lemmas.List.{length-map}
 use Rattle.mesh_base.specs.declared.limits.TheConstants.{MOST_NODES}
-use Rattle.mesh_base.specs.Meshes.{Nodes, IsMesh, first_at}
+use Rattle.mesh_base.specs.Meshes.{Nodes, IsMesh}
 use Rattle.mesh_base.specs.declared.events.Variant.{Variant}
+use Rattle.mesh_base.proofs.Lemmas.Lists.{each_take}
 use Rattle.aodv_model.specs.Cores.{Message, Pkt, Rreq, Rrep, Rerr, Item, New, Heard}
 use Rattle.aodv_model.specs.Soundness.{IsMessageInMesh, IsItemInMesh}
 use Rattle.aodv_model.specs.Handlers.{key_of}
@@ -18,19 +17,19 @@ use Rattle.mesh_model.specs.Worlds.{World, Copy, Event, after, step, run, start,
 use Rattle.mesh_model.specs.InMesh.{IsEvent, IsCopyInMesh}
 use Rattle.mesh_model.specs.Invariants.{IsInvariant}
 use Rattle.mesh_model.proofs.Lists.{each_map, each_of}
-use Rattle.mesh_model.specs.Trails.{HasWalks, HasRequestWalk, HasReplyWalk, IsBackedWalk, MessageHasWalk, ItemHasWalk, CopyHasWalk, around, front}
-use Rattle.mesh_model.proofs.Honest.{front_distinct, front_long, front_within, run_trails, start_trails}
+use Rattle.mesh_model.specs.Trails.{HasWalks, HasRequestWalk, HasReplyWalk, MessageHasWalk, ItemHasWalk, CopyHasWalk, around}
+use Rattle.mesh_model.proofs.Honest.{run_trails, start_trails}
 use Rattle.mesh_model.proofs.MeshSteps.{run_keeps}
-use Rattle.mesh_model.proofs.NumberSteps.{IsCopyWithin, run_within, start_within}
+use Rattle.mesh_model.proofs.NumberSteps.{IsCopyWithin, run_within, start_within, firsts_within}
 use Rattle.mesh_model.proofs.Steps.{start_kept}
+use Rattle.mesh_model.proofs.OnlyNumbers.{walk_within}
 use Rattle.mesh_shell.specs.Fold as shell
-use Rattle.mesh_shell.specs.Pieces.{Piece, Whole, Long, Beyond}
-use Rattle.mesh_text.specs.Schedule.{RunState, opening, line_of}
+use Rattle.mesh_shell.specs.Pieces.{Piece}
+use Rattle.mesh_text.specs.Schedule.{RunState, opening}
 use Rattle.mesh_text.specs.Text.{LineOutcome, On, Refused, Full, outcome_of_piece, RunText, goes_on, text_from, text_of_input}
 use Rattle.mesh_text.specs.Runs.{events_of_piece, events_of_input}
-use Rattle.mesh_text.proofs.InRange.{line_allowed}
 use Rattle.mesh_text.proofs.RunStates.{IsKept, IsKeptCame, all_positive, piece_kept, opening_kept, input_kept}
-use Rattle.mesh_text.proofs.RunLaws.{GoesBy, result_goes, run_of_events, events_are_of_mesh}
+use Rattle.mesh_text.proofs.RunLaws.{GoesBy, run_of_events, events_are_of_mesh, piece_goes}
 use Rattle.mesh_text.proofs.StepLaws.{steps_are_events}
 use Rattle.mesh_run.specs.RunStates.{AreOfVariant}
 use Rattle.mesh_run.proofs.OfVariant.{step_of, start_of}
@@ -54,13 +53,6 @@ pub record IsRunWorld (v : Variant) (mesh : Nodes) (w : World) : Type 0 where
   pub flies : AllByRecursion (λ c. IsClear mesh c.message) w.flying
 
 -- ---- messages
-
--- a walk has no more hops than there are nodes
-walk_within : (v : Variant) (w : World) (d n h from : ℕ) (others : List ℕ) → IsBackedWalk (around v w) d n (from ∷ others) → length (from ∷ others) ≡ h + 1 → h ≤ length w.nodes
-walk_within v w d n h from others walk long =
-    let bound : length (front (from ∷ others)) ≤ length w.nodes = length-le_from_distinct_below (front (from ∷ others)) (length w.nodes) (front_distinct (around v w) d n from others walk) (front_within v w d n from others walk) in
-    let all : length (front (from ∷ others)) + 1 ≡ length (from ∷ others) = front_long from others in
-    omega arith
 
 fields : (v : Variant) (w : World) (from : ℕ) (m : Message) → length w.nodes ≤ 200 → MessageHasWalk (around v w) from m → IsMessageWithin greatest m → IsSendable m → AreWithinFields m
 fields v w from (Pkt b d o) few walk within id = tt
@@ -93,16 +85,6 @@ module _ (v : Variant) (mesh : Nodes) (w : World) (is : IsMesh mesh) (size : len
 
 -- ---- worlds
 
-all_within : (mesh : Nodes) → IsMesh mesh → AllByRecursion (λ n. (1 ≤ n) × (n ≤ greatest)) (first_numbers mesh)
-all_within mesh is = through mesh (recursion_from_All (λ p. (1 ≤ p.1) × (p.1 ≤ greatest)) mesh (λ k d lt. same mesh k d lt (is.positive k lt, omega (arith, is.firsts k lt))))
-  where
-    same : (mesh : Nodes) (k : ℕ) (d : ℕ × ℕ) → k < length mesh → (1 ≤ first_at mesh k) × (first_at mesh k ≤ greatest) → (1 ≤ (get_or mesh k d).1) × ((get_or mesh k d).1 ≤ greatest)
-    same mesh k d lt one = rw (get_or_default mesh k d (0, 0) lt) one
-
-    through : (mesh : Nodes) → AllByRecursion (λ p. (1 ≤ p.1) × (p.1 ≤ greatest)) mesh → AllByRecursion (λ n. (1 ≤ n) × (n ≤ greatest)) (first_numbers mesh)
-    through [] all = tt
-    through (p ∷ ps) all = (all.0, through ps all.1)
-
 run_of : (v : Variant) (w : World) (es : List Event) → AreOfVariant v w → AreOfVariant v (run w es)
 unfolding run
 run_of v w [] all = all
@@ -119,7 +101,7 @@ run_world v mesh es is events =
     let size : length w.nodes ≡ length mesh = kept.1 ∙ count in
     let in_mesh = (kept.0).in_mesh in
     let safe = start_kept v firsts positive in
-    let numbers = start_within v firsts (all_within mesh is) in
+    let numbers = start_within v firsts (firsts_within mesh is) in
     let walks : HasWalks v w = (run_trails v before es safe (start_trails v firsts)).1 in
     let within = run_within v before es safe (start_trails v firsts) numbers in
     let sendable : AreSendable w = run_have v before es safe (start_trails v firsts) numbers (start_have v firsts) in
@@ -168,12 +150,6 @@ of_goes v m es (On text n) others (inr ran) kept is rest = rest n kept (record {
 of_goes v m es (Refused why) others goes kept is rest = is
 of_goes v m es (Full text n e field) others goes kept is rest = is
 
-piece_goes : (m : RunState) (piece : Piece) → IsKept m → GoesBy m (events_of_piece m piece) (outcome_of_piece m piece)
-unfolding outcome_of_piece GoesBy
-piece_goes m (Whole line) is = result_goes m (line_of m.mesh (is_some m.world) line) (line_allowed m.mesh (is_some m.world) line is.mesh.few)
-piece_goes m Long is = refl
-piece_goes m Beyond is = refl
-
 of_from : (v : Variant) (m : RunState) (pieces : List Piece) → IsKept m → IsOf v m → IsOf v (text_from m pieces).after
 unfolding shell.text_from
 of_from v m [] kept is = is
@@ -183,11 +159,6 @@ of_from v m (piece ∷ pieces) kept is =
 input_of : (v : Variant) (input : List ℕ) → IsOf v (text_of_input v input).after
 unfolding text_of_input shell.text_on
 input_of v input = of_from v (opening v) _ (opening_kept v) (record { variant = refl; none = λ _. refl })
-
-each_take : (P : Event → Type 0) (k : ℕ) (es : List Event) → AllByRecursion P es → AllByRecursion P (take k es)
-each_take P zero es all = tt
-each_take P (suc k) [] all = tt
-each_take P (suc k) (e ∷ es) all = (all.0, each_take P k es all.1)
 
 -- a world of a run where there is one; without one no step was taken
 abbrev pub HasRunWorld : Variant → Nodes → ℕ → Option World → Type 0

@@ -10,6 +10,7 @@ use Rattle.mesh_base.specs.declared.events.Item.TheVariants as item
 use Rattle.mesh_base.specs.declared.events.Flying.{Flying}
 use Rattle.mesh_base.specs.declared.events.Variant.{Variant}
 use Rattle.mesh_base.specs.Meshes.{Nodes}
+use Rattle.mesh_base.proofs.Lemmas.Lists.{each_at}
 use Rattle.aodv_model.specs.Pairs.{Pairs, pair_cmp, pairs_in}
 use Rattle.aodv_model.specs.Cores.{Message, Item, New, Heard}
 use Rattle.aodv_model.proofs.PairLaws.{pair_cmp_total, same_pair}
@@ -25,7 +26,6 @@ use Rattle.mesh_sound.specs.declared.packets.Claim.TheVariants as claims
 use Rattle.mesh_world.specs.Seen.{node_in}
 use Rattle.mesh_world.specs.Kept.{world_in}
 use Rattle.mesh_world.specs.Restored.{AreWritten}
-use Rattle.mesh_world.proofs.Frames.{each_get}
 use Rattle.mesh_checkpoint.specs.declared.body.Head.{Head}
 use Rattle.mesh_checkpoint.specs.Checkpoint.{Node, Link, World, Body}
 use Rattle.mesh_checkpoint.specs.Points.{item_of, node_of, links_of, copy_of, world_after, body_of}
@@ -74,9 +74,9 @@ plain_node variant mesh w x n is at =
     let in_mesh = is.in_mesh.nodes x n at in
     record {
       named = in_mesh.named;
-      variant_is = each_get (λ m. (m.core).variant ≡ variant) w.nodes x n is.variant_is at;
+      variant_is = each_at (λ m. (m.core).variant ≡ variant) w.nodes x n is.variant_is at;
       precursors = below_more (length w.nodes) 256 (n.core).rt (omega (arith, is.few)) (λ d e there. (in_mesh.core.table.in_mesh d e there).pre);
-      queue = each_get (λ m. AllByRecursion (IsPlainItem mesh) m.queue) w.nodes x n is.plain.waits at;
+      queue = each_at (λ m. AllByRecursion (IsPlainItem mesh) m.queue) w.nodes x n is.plain.waits at;
     }
 
 one_model_node : (variant : Variant) (mesh : Nodes) (x : ℕ) (m n : model.Node) → IsPlainNode variant mesh x m → IsPlainNode variant mesh x n → node_of mesh m ≡ node_of mesh n → m ≡ n

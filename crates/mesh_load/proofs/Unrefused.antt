@@ -12,6 +12,7 @@ use Rattle.mesh_base.specs.Meshes.{Nodes, IsMesh}
 use Rattle.mesh_base.specs.declared.events.Item as items
 use Rattle.mesh_base.specs.declared.events.Flying.{Flying}
 use Rattle.mesh_base.specs.declared.events.Variant.{Variant}
+use Rattle.mesh_base.proofs.Lemmas.Lists.{each_at}
 use Rattle.aodv_model.specs.declared.entry.Entry.{Entry}
 use Rattle.aodv_model.specs.Tables.{Table}
 use Rattle.aodv_model.specs.Cores.{Message, Pkt, Rreq, Rrep, Rerr, Item, New, Heard}
@@ -37,7 +38,6 @@ use Rattle.mesh_world.specs.Seen.{WorldSeen, node_in, data_of}
 use Rattle.mesh_world.specs.Kept.{world_in, seen_of}
 use Rattle.mesh_world.specs.Restored.{AreWritten, AreSoundParts}
 use Rattle.mesh_world.specs.declared.restored.Part.{Part}
-use Rattle.mesh_world.proofs.Frames.{each_get}
 use Rattle.mesh_text.specs.Schedule.{RunState, Sums, world_of}
 use Rattle.mesh_text.specs.Text.{text_of_input}
 use Rattle.mesh_text.specs.Accounts as accounts
@@ -45,7 +45,7 @@ use Rattle.mesh_text.proofs.RunStates.{input_kept}
 use Rattle.mesh_checkpoint.specs.declared.validating.ValidateError.TheVariants as validates
 use Rattle.mesh_checkpoint.specs.Formats.{fits_maybe}
 use Rattle.mesh_checkpoint.specs.Checkpoint as format
-use Rattle.mesh_checkpoint.specs.Checkpoint.{Node, World, Body, has_nodes}
+use Rattle.mesh_checkpoint.specs.Checkpoint.{Node, Body, has_nodes}
 use Rattle.mesh_checkpoint.specs.Counts.{data_in, data_in_world, IsBalanced}
 use Rattle.mesh_checkpoint.specs.Points.{item_of, node_of, copy_of, world_after, head_of, body_of, IsState}
 use Rattle.mesh_checkpoint.specs.Seen.{listed_node}
@@ -63,6 +63,7 @@ use Rattle.mesh_load.proofs.RunStates.{queue_again, copies_again}
 use Rattle.mesh_load.proofs.PlainRuns.{IsClearItem, IsRunWorld, HasRunWorld, plain_world, run_has}
 use Rattle.mesh_load.proofs.Sound.{none_unsound}
 use Rattle.mesh_load.proofs.WorldParts.{world_ranges}
+use Rattle.mesh_load.proofs.Loaded.{unsound_if}
 
 -- ---- the nodes and the radio of a world
 
@@ -115,7 +116,7 @@ module _ (v : Variant) (mesh : Nodes) (w : model.World) (is : IsRunWorld v mesh 
       let in_mesh = inside.nodes x n at in (
         record {
           named = in_mesh.named;
-          variant_is = each_get (λ (m : model.Node). (m.core).variant ≡ v) w.nodes x n is.variant_is at;
+          variant_is = each_at (λ (m : model.Node). (m.core).variant ≡ v) w.nodes x n is.variant_is at;
           size_is = refl;
         },
         subst (λ k. IsSoundCore k n.core) is.size in_mesh.core,
@@ -173,7 +174,7 @@ module _ (v : Variant) (mesh : Nodes) (w : model.World) (is : IsRunWorld v mesh 
     in_each : InEachPacket P (nodes_seen mesh w) (radio_seen mesh w).flying
     in_each = record {
       waits = mapped_of (seen_node mesh) (λ n. AllByRecursion (InItem P) n.items) w.nodes (λ x n at.
-          queue_each n.queue (each_get (λ (m : model.Node). AllByRecursion (IsClearItem mesh) m.queue) w.nodes x n is.waits at) (safe.nodes x n at).queue);
+          queue_each n.queue (each_at (λ (m : model.Node). AllByRecursion (IsClearItem mesh) m.queue) w.nodes x n is.waits at) (safe.nodes x n at).queue);
       flies = flight_each w.flying is.flies safe.flying;
     }
 
@@ -301,9 +302,6 @@ balanced m is fits account =
 
     made_some : (m : RunState) (u : model.World) → m.world ≡ Some u → world_of m ≡ u
     made_some m u some = ap (λ o. unwrap_or o (start m.variant (first_numbers m.mesh))) some
-
-unsound_if : (mesh : Nodes) (variant : Variant) (o : Option World) (w : World) (part : Part) → o ≡ Some w → IsUnsoundWorld mesh variant w part → IsUnsoundIfWorld mesh variant o part
-unsound_if mesh variant o w part is unsound = subst (λ (p : Option World). IsUnsoundIfWorld mesh variant p part) (sym is) unsound
 
 state_unrefused : OneBody → BalancedIsTaken → (m : RunState) (b : List ℕ) (why : StateError) → HasRunWorld m.variant m.mesh m.steps m.world → accounts.IsBalanced m → IsState b m → IsRefused b why → why ≡ errors.NoMemory
 state_unrefused one taken m b errors.NotState is account state told = absurd (taken b (body_of m) validates.NotState state (balanced m is (world_fits m state.fits) account) told)

@@ -25,6 +25,7 @@ use Rattle.mesh_checkpoint.specs.Checkpoint.{Node, World}
 use Rattle.mesh_checkpoint.specs.Counts.{data_in_world}
 use Rattle.mesh_checkpoint.specs.Points.{links_of}
 use Rattle.mesh_checkpoint.specs.Seen.{listed_node}
+use Rattle.mesh_checkpoint.proofs.Formats.{bind_some}
 use Rattle.mesh_restore.specs.RadioParts.{RadioPart, radio_part, IsRadioPartRead}
 use Rattle.mesh_restore.specs.Reading.{Refuses}
 use Rattle.mesh_restore.specs.declared.error.ReadError.{ReadError}
@@ -38,10 +39,6 @@ use Rattle.mesh_load.specs.Loading.{AreInPlace, IsUnsoundWorld}
 use Rattle.mesh_load.specs.Parts.{IsMade, IsRefusalOf, IsUnsoundNode, IsFitting, IsWorldFrom}
 use Rattle.mesh_load.proofs.NodeLists.{at_index}
 use Rattle.mesh_load.proofs.Amounts.{data_agree}
-
-pub bind_some : {A B : Type 0} (o : Option A) (f : A → Option B) (y : B) → (o >>= f) ≡ Some y → (x : A) × (o ≡ Some x) × (f x ≡ Some y)
-bind_some None f y e = absurd (none-some y e)
-bind_some (Some x) f y e = (x, refl, e)
 
 -- ---- what is read of a world
 

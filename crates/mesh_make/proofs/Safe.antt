@@ -16,6 +16,7 @@ use Rattle.mesh_text.specs.Schedule.{RunState, AcceptedLine, Nothing, NewNode, D
 use Rattle.mesh_text.specs.Ranges.{IsInTime}
 use Rattle.mesh_text.specs.Auto as auto
 use Rattle.mesh_text.specs.Text.{LineOutcome, On, Refused, Full, outcome_by_events, outcome_of_auto, outcome_of_line, outcome_of_read, outcome_of_piece, RunText, goes_on, text_from}
+use Rattle.mesh_text.proofs.Seams.{first_piece as more_pieces}
 use Rattle.mesh_make.proofs.Texts.{IsShort, short_lacks}
 
 -- the run of a text from a state on
@@ -87,11 +88,6 @@ module _ (mesh : Nodes) where
   line_fine m ShowsFlight later is = is
 
 -- ---- one line and the rest of a text
-
-more_pieces : (words : List ℕ) (ps : List (List ℕ)) → 1 ≤ length ps → pieces_of schedule_limits false (words ∷ ps) ≡ piece_of schedule_limits words ∷ pieces_of schedule_limits false ps
-unfolding pieces_of
-more_pieces words [] some = absurd (omega arith)
-more_pieces words (p ∷ ps) some = refl
 
 first_piece : (m : RunState) (piece : Piece) (pieces : List Piece) → text_from m (piece ∷ pieces) ≡ goes_on m (outcome_of_piece m piece) (λ n. text_from n pieces)
 unfolding shell.text_from

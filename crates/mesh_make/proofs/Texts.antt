@@ -1,11 +1,12 @@
 -- Written lines have no LF, and are short.
-use Rattle.std.proofs.Common.{◌≡◌, ℕ, ◌+◌, ◌/◌, ◌%◌, ◌^◌, ◌<◌, ◌≤◌, Bool, true, false, eqb, not, List, ◌∷◌, ◌++◌, length, refl, ap, arith, codes}
+use Rattle.std.proofs.Common.{◌≡◌, ℕ, ◌+◌, ◌/◌, ◌%◌, ◌^◌, ◌<◌, ◌≤◌, Bool, true, eqb, not, List, ◌∷◌, ◌++◌, length, refl, ap, arith, codes}
 use Rattle.std.specs.List.{list_all}
 use Rattle.std.specs.Fmt.{decimal}
 use Rattle.std.proofs.lemmas.Fmt.{length-decimal-le}
 use Rattle.std.proofs.lemmas.List.{length-append}
 use Rattle.std.proofs.lemmas.List.Folds.{list_all-append}
 use Rattle.std.proofs.lemmas.List.Sums.{AllPass-from_list_all, list_all-from_AllPass}
+use Rattle.std.proofs.lemmas.Bool.{not-true}
 use Rattle.mesh_base.specs.Addresses.{dotted_decimal}
 use Rattle.mesh_base.proofs.WrittenForms.{Lacks, decimal_lacks}
 use Rattle.mesh_grammar.specs.Forms.{Arguments, NoArgument, OneAddress, TwoAddresses, OneNumber, NumberedAddress, AddressesAndText, AddressAndNumber, AddressAndText}
@@ -21,12 +22,8 @@ pub record IsShort (most : ℕ) (text : List ℕ) : Type 0 where
   pub others : list_all other text ≡ true
   pub within : length text ≤ most
 
-not_true : (b : Bool) → not b ≡ true → b ≡ false
-not_true false h = refl
-not_true true h = cc
-
 pub short_lacks : (most : ℕ) (text : List ℕ) → IsShort most text → Lacks 10 text
-short_lacks most text short i d lt = not_true _ (AllPass-from_list_all other text short.others i d lt)
+short_lacks most text short i d lt = not-true _ (AllPass-from_list_all other text short.others i d lt)
 
 -- two texts, where there is room for both
 pub joined : (m n most : ℕ) (a b : List ℕ) → m + n ≤ most → IsShort m a → IsShort n b → IsShort most (a ++ b)

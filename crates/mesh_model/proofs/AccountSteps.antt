@@ -8,6 +8,7 @@ use Rattle.std.proofs.lemmas.Option.{none-some, same_Some, slice_get_within as i
 use Rattle.std.specs.FinMap as maps
 use Rattle.mesh_base.specs.declared.events.Full.{Full as Counter}
 use Rattle.mesh_base.specs.declared.events.Variant.{Variant}
+use Rattle.mesh_base.proofs.Lemmas.Lists.{some_at}
 use Rattle.aodv_model.specs.Cores.{Item, New, Heard, bodies_in}
 use Rattle.aodv_model.specs.Handlers.{Reaction, took, turn, send, ask}
 use Rattle.aodv_model.proofs.SoundTurns.{Stands, Settles, turn_settles, send_settles, ask_settles}
@@ -92,11 +93,6 @@ lighter_sum : (t : Test) (w : World) (id : ℕ) (c : Copy) → IsInMesh w → fi
 unfolding waiting queued_data in_flight without
 lighter_sum t w id c places is = let e = one_goes (in_copy t) 1 w.next_copy id c w.flying places.numbered is in omega arith
 
-is_there : {A : Type 0} (xs : List A) (i : ℕ) → i < length xs → (x : A) × (slice_get xs i ≡ Some x)
-is_there [] i l = absurd (omega arith)
-is_there (x ∷ xs) zero l = (x, refl)
-is_there (x ∷ xs) (suc i) l = is_there xs i (omega arith)
-
 -- ---- outcomes
 
 -- what comes and what goes
@@ -154,7 +150,7 @@ step_balanced_sum t w e ok places = by_cases w (λ e o. IsEvent (length w.nodes)
   cut = λ a b stands ok. refl;
   heard = λ id c is ok.
       let p : IsCopyInMesh (length w.nodes) c = found_honest (IsCopyInMesh (length w.nodes)) w.flying id c places.flying is in
-      let n = is_there w.nodes c.to p.1 in
+      let n = some_at w.nodes c.to p.1 in
       let light = lighter_sum t w id c places is in
       let e = push_sum t (without_copy w id) c.to n.0 (Heard c.from c.message) n.1 (places.nodes c.to n.0 n.1).named in
       omega arith;

@@ -25,7 +25,7 @@ unfolding OnSome
 on_map P f None h = tt
 on_map P f (Some x) h = h
 
-least_within : (k i : ℕ) (passes : ℕ → Bool) → OnSome (λ x. x < i + k) (least_from k i passes)
+pub least_within : (k i : ℕ) (passes : ℕ → Bool) → OnSome (λ x. x < i + k) (least_from k i passes)
 unfolding OnSome
 least_within zero i passes = tt
 least_within (suc k) i passes =
@@ -33,7 +33,7 @@ least_within (suc k) i passes =
     (λ _. omega arith)
     (λ _. on_more (λ x. x < i + 1 + k) (λ x. x < i + suc k) (least_from k (i + 1) passes) (λ x lt. omega arith) (least_within k (i + 1) passes))
 
-abbrev Both : ℕ → ℕ → ℕ × ℕ → Type 0
+abbrev pub Both : ℕ → ℕ → ℕ × ℕ → Type 0
 Both m n p = (p.0 < m) × (p.1 < n)
 
 beside_on : (P : ℕ × ℕ → Type 0) (i : ℕ) (o : Option ℕ) (rest : Option (ℕ × ℕ)) → OnSome (λ d. P (i, d)) o → OnSome P rest → OnSome P (beside i o rest)
@@ -41,7 +41,7 @@ unfolding OnSome
 beside_on P i None rest h more = more
 beside_on P i (Some d) rest h more = h
 
-pair_within : (k i size : ℕ) (found : ℕ → Option ℕ) → ((x : ℕ) → OnSome (λ d. d < size) (found x)) → OnSome (Both (i + k) size) (least_pair_from k i found)
+pub pair_within : (k i size : ℕ) (found : ℕ → Option ℕ) → ((x : ℕ) → OnSome (λ d. d < size) (found x)) → OnSome (Both (i + k) size) (least_pair_from k i found)
 unfolding OnSome
 pair_within zero i size found each = tt
 pair_within (suc k) i size found each =
@@ -59,11 +59,11 @@ first_on P (Some e ∷ os) all = all.0
 abbrev pub IsChoiceOf : ℕ → Event → Type 0
 IsChoiceOf size e = IsChoice e × IsEvent size e
 
-send_within : (size : ℕ) (n : Option Node) → OnSome (λ d. d < size) (first_send_in size n)
+pub send_within : (size : ℕ) (n : Option Node) → OnSome (λ d. d < size) (first_send_in size n)
 unfolding first_send_in
 send_within size n = on_more (λ d. d < 0 + size) (λ d. d < size) (least_from size 0 (may_send_in n)) (λ d lt. omega arith) (least_within size 0 (may_send_in n))
 
-ask_within : (size : ℕ) (n : Option Node) → OnSome (λ d. d < size) (first_ask_in size n)
+pub ask_within : (size : ℕ) (n : Option Node) → OnSome (λ d. d < size) (first_ask_in size n)
 unfolding first_ask_in
 ask_within size n = on_more (λ d. d < 0 + size) (λ d. d < size) (least_from size 0 (may_ask_in n)) (λ d lt. omega arith) (least_within size 0 (may_ask_in n))
 

@@ -1,6 +1,6 @@
 -- Who gets a cast, and what holds of each of its copies.
-use Rattle.std.proofs.Common.{◌≡◌, ℕ, zero, suc, ◌+◌, ◌<◌, ◌≤◌, Bool, true, false, ◌&&◌, ◌||◌, ◌==◌, List, [], ◌∷◌, ◌++◌, length, refl, ap, sym, ◌∙◌, arith}
-use Rattle.std.specs.Prelude.{if◌then◌else◌}
+use Rattle.std.proofs.Common.{◌≡◌, ℕ, zero, suc, ◌+◌, ◌<◌, ◌≤◌, Bool, true, false, ◌&&◌, ◌||◌, ◌==◌, List, [], ◌∷◌, ◌++◌, Option, Some, None, length, refl, ap, sym, ◌∙◌, arith}
+use Rattle.std.specs.Prelude.{if◌then◌else◌, slice_get}
 use Rattle.std.specs.List.{AllByRecursion}
 use Rattle.std.specs.Ordering.{nat_cmp}
 use Rattle.std.specs.Cmp.{nat_cmp_total, unsigned_tied}
@@ -9,11 +9,11 @@ use Rattle.std.specs.FinSet as sets
 use Rattle.mesh_base.specs.Members.{NodeIds}
 use Rattle.mesh_base.proofs.Ranks.{members_few}
 use Rattle.aodv_model.proofs.Entries.{if_case}
-use Rattle.aodv_model.specs.Cores.{Message}
+use Rattle.aodv_model.specs.Cores.{Item, Message}
 use Rattle.aodv_model.specs.Handlers.{All, Cast, Many, Nothing, One, one}
 use Rattle.aodv_model.specs.Pairs.{Pairs}
 use Rattle.mesh_model.proofs.Lists.{each_append, each_map}
-use Rattle.mesh_model.specs.Worlds.{Copy, World, are_linked, copies, copies_of, copies_to, linked_below, members_below, range, receivers}
+use Rattle.mesh_model.specs.Worlds.{Copy, Node, World, are_linked, copies, copies_of, copies_to, linked_below, members_below, push, range, receivers, with_item}
 
 below_case : (links : Pairs) (a n y : ℕ) (b : Bool) → are_linked links a n ≡ b → (sets.contains (linked_below links a n) y ≡ true → (y < n) × (are_linked links a y ≡ true))
     → sets.contains (if b then sets.insert (linked_below links a n) n else linked_below links a n) y ≡ true → (y < suc n) × (are_linked links a y ≡ true)
@@ -86,11 +86,11 @@ each_copy P C carries w x (Many s m) is each = copies_to_each P (range w x) x m 
 each_copy P C carries w x (All m) is each = copies_to_each P (range w x) x m (λ id to near. each id to m near (carries.all m is)) _ w.next_copy (near_each w x (All m))
 
 -- a cast has at most one copy for each receiver
-copies_to_length : (tos : List ℕ) (id x : ℕ) (m : Message) → length (copies_to tos id x m) ≡ length tos
+pub copies_to_length : (tos : List ℕ) (id x : ℕ) (m : Message) → length (copies_to tos id x m) ≡ length tos
 copies_to_length [] id x m = refl
 copies_to_length (to ∷ tos) id x m = ap suc (copies_to_length tos (id + 1) x m)
 
-copies_of_length : (c : Cast) (tos : List ℕ) (id x : ℕ) → length (copies_of c tos id x) ≤ length tos
+pub copies_of_length : (c : Cast) (tos : List ℕ) (id x : ℕ) → length (copies_of c tos id x) ≤ length tos
 copies_of_length Nothing tos id x = omega arith
 copies_of_length (One y m) tos id x = let e = copies_to_length tos id x m in omega arith
 copies_of_length (Many s m) tos id x = let e = copies_to_length tos id x m in omega arith
@@ -103,3 +103,12 @@ copies_few w x c =
     let few = copies_of_length c (members_below (length w.nodes) near) w.next_copy x in
     let tos = members_few (length w.nodes) near in
     omega arith
+
+-- an item at the back of a queue takes no number
+pub push_next : (w : World) (x : ℕ) (item : Item) → (push w x item).next_copy ≡ w.next_copy
+unfolding push
+push_next w x item = by (slice_get w.nodes x)
+  where
+    by : (o : Option Node) → (with_item w x o item).next_copy ≡ w.next_copy
+    by None = refl
+    by (Some n) = refl

@@ -37,7 +37,7 @@ doubling_counted w e = by_cases w (λ e o. doubled_data any w e ≡ doubled_at o
 }) e
 
 -- a doubling doubles one datum at most, and gives none
-one_at_most : (m : Message) → in_message any m ≤ 1
+pub one_at_most : (m : Message) → in_message any m ≤ 1
 one_at_most (Pkt b d o) = omega arith
 one_at_most (Rreq m) = omega arith
 one_at_most (Rrep m) = omega arith

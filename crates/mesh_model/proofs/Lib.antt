@@ -1,6 +1,7 @@
 pub mod Lists
 pub mod Cases
 pub mod Copies
+pub mod Links
 pub mod Backing
 pub mod Leads
 pub mod Turns

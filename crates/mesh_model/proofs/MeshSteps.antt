@@ -8,6 +8,7 @@ use Rattle.std.proofs.lemmas.Option.{slice_get_within}
 use Rattle.std.specs.FinSet as sets
 use Rattle.std.specs.FinMap as maps
 use Rattle.std.proofs.lemmas.Option.{none-some, same_Some}
+use Rattle.std.proofs.Math.Bool.{or-true}
 use Rattle.mesh_base.specs.declared.events.Variant.{Variant}
 use Rattle.mesh_model.proofs.Cases.{by_cases}
 use Rattle.mesh_model.specs.Invariants.{IsInvariant}
@@ -44,12 +45,8 @@ linked_more size links a b la lb differ are p is = at (eq_by_cmp pair_cmp p (pai
 pub has_fewer : (links : Pairs) (q p : ℕ × ℕ) → sets.contains (sets.remove links q) p ≡ true → sets.contains links p ≡ true
 has_fewer links q p is = second _ (sets.contains links p) (sym (sets.contains-remove pair_cmp_total links q p) ∙ is)
 
-or_true : (b : Bool) → (b || true) ≡ true
-or_true true = refl
-or_true false = refl
-
 pub has_more : (s : Pairs) (k p : ℕ × ℕ) → sets.contains s p ≡ true → sets.contains (sets.insert s k) p ≡ true
-has_more s k p e = sets.contains-insert pair_cmp_total s k p ∙ (ap (λ b. eq_by_cmp pair_cmp p k || b) e ∙ or_true (eq_by_cmp pair_cmp p k))
+has_more s k p e = sets.contains-insert pair_cmp_total s k p ∙ (ap (λ b. eq_by_cmp pair_cmp p k || b) e ∙ or-true (eq_by_cmp pair_cmp p k))
 
 pub both_more : (s t : Pairs) (k p : ℕ × ℕ) → (sets.contains s p ≡ true → sets.contains t p ≡ true) → sets.contains (sets.insert s k) p ≡ true → sets.contains (sets.insert t k) p ≡ true
 both_more s t k p more e = sets.contains-insert pair_cmp_total t k p ∙ at (eq_by_cmp pair_cmp p k) (sym (sets.contains-insert pair_cmp_total s k p) ∙ e)

@@ -1,9 +1,12 @@
 -- Every step keeps each number within its field, and the ids of each node's own requests within its own number.
-use Rattle.std.proofs.Common.{◌≡◌, ℕ, zero, suc, ◌+◌, ◌≤◌, true, List, [], ◌∷◌, Some, ap, sym, ◌∙◌, subst, arith}
+use Rattle.std.proofs.Common.{◌≡◌, ℕ, zero, suc, ◌+◌, ◌<◌, ◌≤◌, length, get_or, true, List, [], ◌∷◌, Some, ap, sym, ◌∙◌, subst, arith}
 use Rattle.std.specs.Prelude.{slice_get}
 use Rattle.std.specs.List.{AllByRecursion}
 use Rattle.std.proofs.lemmas.Option.{none-some, same_Some}
+use Rattle.std.proofs.lemmas.List.{get_or_default}
+use Rattle.std.proofs.lemmas.List.Elements.{recursion_from_All}
 use Rattle.mesh_base.specs.declared.events.Variant.{Variant}
+use Rattle.mesh_base.specs.Meshes.{Nodes, IsMesh, first_at}
 use Rattle.aodv_model.proofs.Numbers.{IsCastWithin, IsCoreWithin, IsItemWithin, IsMessageWithin, IsReactionWithin, KnowsOwn, ask_below, ask_keeps, free_send_keeps, free_turn_keeps, opening_within}
 use Rattle.aodv_model.specs.Cores.{Heard, Item, New, Pkt, Rerr, Rrep, Rreq, has_seen}
 use Rattle.aodv_model.specs.Fullness.{greatest}
@@ -14,7 +17,7 @@ use Rattle.mesh_model.proofs.Steps.{step_kept}
 use Rattle.mesh_model.proofs.TrailSteps.{step_trails}
 use Rattle.mesh_model.specs.Invariants.{IsLoopSafe}
 use Rattle.mesh_model.specs.Trails.{Around, HasRequestWalk, HasWalks, IsBackedWalk, ItemHasWalk, NodeHasWalks, around, seen_in}
-use Rattle.mesh_model.specs.Worlds.{Copy, Event, Node, World, after, openings, range, run, start, step}
+use Rattle.mesh_model.specs.Worlds.{Copy, Event, Node, World, after, first_numbers, openings, range, run, start, step}
 
 pub record IsNodeWithin (x : ℕ) (n : Node) : Type 0 where
   pub core : IsCoreWithin greatest x n.core
@@ -85,6 +88,17 @@ opening_node v ip (first ∷ firsts) all (suc x) n is = subst (λ k. IsNodeWithi
   where
     next : (x : ℕ) → ip + 1 + x ≡ ip + suc x
     next x = omega arith
+
+-- the first numbers of a mesh
+pub firsts_within : (mesh : Nodes) → IsMesh mesh → AllByRecursion (λ n. (1 ≤ n) × (n ≤ greatest)) (first_numbers mesh)
+firsts_within mesh is = through mesh (recursion_from_All (λ p. (1 ≤ p.1) × (p.1 ≤ greatest)) mesh (λ k d lt. same mesh k d lt (is.positive k lt, omega (arith, is.firsts k lt))))
+  where
+    same : (mesh : Nodes) (k : ℕ) (d : ℕ × ℕ) → k < length mesh → (1 ≤ first_at mesh k) × (first_at mesh k ≤ greatest) → (1 ≤ (get_or mesh k d).1) × ((get_or mesh k d).1 ≤ greatest)
+    same mesh k d lt one = rw (get_or_default mesh k d (0, 0) lt) one
+
+    through : (mesh : Nodes) → AllByRecursion (λ p. (1 ≤ p.1) × (p.1 ≤ greatest)) mesh → AllByRecursion (λ n. (1 ≤ n) × (n ≤ greatest)) (first_numbers mesh)
+    through [] all = tt
+    through (p ∷ ps) all = (all.0, through ps all.1)
 
 pub start_within : (v : Variant) (firsts : List ℕ) → AllByRecursion (λ n. (1 ≤ n) × (n ≤ greatest)) firsts → IsWithin (start v firsts)
 unfolding start

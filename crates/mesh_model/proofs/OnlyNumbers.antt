@@ -25,7 +25,7 @@ use Rattle.mesh_model.specs.Worlds.{AreFirstNumbers, Ask, Event, Next, WorldEffe
 -- ---- hops
 
 -- a walk has no more hops than there are nodes
-walk_within : (v : Variant) (w : World) (d n h from : ℕ) (others : List ℕ) → IsBackedWalk (around v w) d n (from ∷ others) → length (from ∷ others) ≡ h + 1 → h ≤ length w.nodes
+pub walk_within : (v : Variant) (w : World) (d n h from : ℕ) (others : List ℕ) → IsBackedWalk (around v w) d n (from ∷ others) → length (from ∷ others) ≡ h + 1 → h ≤ length w.nodes
 walk_within v w d n h from others walk long =
     let bound : length (front (from ∷ others)) ≤ length w.nodes = length-le_from_distinct_below (front (from ∷ others)) (length w.nodes) (front_distinct (around v w) d n from others walk) (front_within v w d n from others walk) in
     let all : length (front (from ∷ others)) + 1 ≡ length (from ∷ others) = front_long from others in

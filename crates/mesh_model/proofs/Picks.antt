@@ -1,7 +1,7 @@
 -- The least of a kind by a set of them, and that what is chosen is enabled.
-use Rattle.std.proofs.Common.{◌≡◌, ◌≢◌, ℕ, zero, suc, ◌+◌, ◌<◌, ◌≤◌, Bool, true, false, ◌==◌, List, [], ◌∷◌, length, Some, None, Option, refl, ap, sym, ◌∙◌, subst, arith, inl, inr}
+use Rattle.std.proofs.Common.{◌≡◌, ◌≢◌, ℕ, zero, suc, ◌+◌, ◌<◌, ◌≤◌, Bool, true, false, ◌==◌, List, [], ◌∷◌, length, Some, None, Option, refl, ap, sym, ◌∙◌, subst, arith, inl, inr, eq-eqb}
 use Rattle.std.specs.Prelude.{if◌then◌else◌, is_some, option_map, slice_get}
-use Rattle.std.proofs.lemmas.Bool.{cases_eq, eqb-false}
+use Rattle.std.proofs.lemmas.Bool.{cases_eq}
 use Rattle.std.proofs.lemmas.Option.{none-some, same_Some}
 use Rattle.std.specs.FinSet as sets
 use Rattle.mesh_base.specs.Members.{NodeIds, IsLeastFrom}
@@ -105,19 +105,12 @@ ask_enabled : (w : World) (x d : ℕ) (o : Option Node) → may_ask_in o d ≡ t
 ask_enabled w x d None may = λ e. cc
 ask_enabled w x d (Some n) may = subst (λ b. (if b then unless_full x (ask_full n.core) (Next (done_by w x (ask n.core d) n.queue) (Sent (ask n.core d).effect (copies w x ((ask n.core d).effect).cast))) else Idle) ≢ Idle) (sym may) (unless_goes x (ask_full n.core) _ _)
 
-same_number : (d : ℕ) → (d == d) ≡ true
-same_number d = either (d == d) refl
-  where
-    either : (b : Bool) → (d == d) ≡ b → b ≡ true
-    either true e = refl
-    either false e = absurd (eqb-false d d e refl)
-
 -- the first copy is found by its id
 deliver_enabled : (w : World) (cs : List Copy) (id : ℕ) (f : Copy → Outcome) → ((c : Copy) → f c ≢ Idle) → option_map (λ c. c.id) (slice_get cs 0) ≡ Some id → at_copy (find_copy cs id) f ≢ Idle
 deliver_enabled w [] id f goes is = absurd (none-some id is)
-deliver_enabled w (c ∷ cs) id f goes is = subst (λ b. at_copy (if b then Some c else find_copy cs id) f ≢ Idle) (sym (ap (λ k. k == id) (same_Some c.id id is) ∙ same_number id)) (goes c)
+deliver_enabled w (c ∷ cs) id f goes is = subst (λ b. at_copy (if b then Some c else find_copy cs id) f ≢ Idle) (sym (ap (λ k. k == id) (same_Some c.id id is) ∙ eq-eqb id id refl)) (goes c)
 
-enabled_turn : (w : World) (x : ℕ) → first_turn w ≡ Some x → step w (Turn x) ≢ Idle
+pub enabled_turn : (w : World) (x : ℕ) → first_turn w ≡ Some x → step w (Turn x) ≢ Idle
 unfolding first_turn step
 enabled_turn w x is = turn_enabled w x (slice_get w.nodes x) (least_passes (length w.nodes) 0 x (λ x. may_turn_in (slice_get w.nodes x)) is)
 
@@ -125,13 +118,13 @@ enabled_deliver : (w : World) (id : ℕ) → first_copy w ≡ Some id → step w
 unfolding first_copy step
 enabled_deliver w id is = deliver_enabled w w.flying id _ (λ c e. cc) is
 
-enabled_send : (w : World) (p : ℕ × ℕ) → first_send w ≡ Some p → step w (Send p.0 p.1) ≢ Idle
+pub enabled_send : (w : World) (p : ℕ × ℕ) → first_send w ≡ Some p → step w (Send p.0 p.1) ≢ Idle
 unfolding first_send first_send_in step
 enabled_send w p is =
     let found : first_send_in (length w.nodes) (slice_get w.nodes p.0) ≡ Some p.1 = least_pair_found (length w.nodes) 0 p (λ x. first_send_in (length w.nodes) (slice_get w.nodes x)) is in
     send_enabled w p.0 p.1 (slice_get w.nodes p.0) (least_passes (length w.nodes) 0 p.1 (may_send_in (slice_get w.nodes p.0)) found)
 
-enabled_ask : (w : World) (p : ℕ × ℕ) → first_ask w ≡ Some p → step w (Ask p.0 p.1) ≢ Idle
+pub enabled_ask : (w : World) (p : ℕ × ℕ) → first_ask w ≡ Some p → step w (Ask p.0 p.1) ≢ Idle
 unfolding first_ask first_ask_in step
 enabled_ask w p is =
     let found : first_ask_in (length w.nodes) (slice_get w.nodes p.0) ≡ Some p.1 = least_pair_found (length w.nodes) 0 p (λ x. first_ask_in (length w.nodes) (slice_get w.nodes x)) is in

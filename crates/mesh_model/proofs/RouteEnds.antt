@@ -1,8 +1,9 @@
 -- Whoever goes from valid next hop to next hop comes to the end of the route.
-use Rattle.std.proofs.Common.{◌≡◌, ◌≢◌, ℕ, zero, suc, ◌+◌, ◌<◌, ◌≤◌, Bool, true, false, ◌==◌, List, [], ◌∷◌, ◌++◌, length, Some, None, Option, refl, ap, sym, ◌∙◌, subst, arith}
+use Rattle.std.proofs.Common.{◌≡◌, ◌≢◌, ℕ, zero, suc, ◌+◌, ◌<◌, ◌≤◌, Bool, true, false, ◌==◌, List, [], ◌∷◌, ◌++◌, length, Some, None, Option, refl, ap, sym, ◌∙◌, subst, arith, eq-eqb}
 use Rattle.std.specs.Prelude.{if◌then◌else◌}
-use Rattle.std.proofs.lemmas.Bool.{eqb-true, eqb-false}
+use Rattle.std.proofs.lemmas.Bool.{eqb-true, eqb-false, ne_eqb}
 use Rattle.std.proofs.lemmas.Option.{none-some, same_Some}
+use Rattle.std.proofs.lemmas.List.{length_push}
 use Rattle.std.specs.FinMap as maps
 use Rattle.aodv_model.specs.declared.entry.Entry.{Entry}
 use Rattle.aodv_model.specs.declared.entry.Flag.{Flag}
@@ -22,10 +23,6 @@ walk_on w d x (y ∷ ys) z walk edge = (walk.0, walk_on w d y ys z walk.1 edge)
 last_on : (x : ℕ) (ys : List ℕ) (z : ℕ) → last x (ys ++ z ∷ []) ≡ z
 last_on x [] z = refl
 last_on x (y ∷ ys) z = last_on y ys z
-
-length_on : (ys : List ℕ) (z : ℕ) → length (ys ++ z ∷ []) ≡ length ys + 1
-length_on [] z = refl
-length_on (y ∷ ys) z = let more : length (ys ++ z ∷ []) ≡ length ys + 1 = length_on ys z in omega arith
 
 last_within : (w : World) (d x : ℕ) (ys : List ℕ) → IsInvariant w → x < length w.nodes → IsWalk w d (x ∷ ys) → last x ys < length w.nodes
 last_within w d x [] inv l walk = l
@@ -82,27 +79,13 @@ one_more : (most : ℕ) (w : World) (d y hops : ℕ) → 1 ≤ most → (k : ℕ
 one_more zero w d y hops some = absurd (omega arith)
 one_more (suc k) w d y hops some = (k, refl)
 
-same_node : (d : ℕ) → (d == d) ≡ true
-same_node d = either (d == d) refl
-  where
-    either : (b : Bool) → (d == d) ≡ b → b ≡ true
-    either true e = refl
-    either false e = absurd (eqb-false d d e refl)
-
-other_node : (y d : ℕ) → y ≢ d → (y == d) ≡ false
-other_node y d apart = either (y == d) refl
-  where
-    either : (b : Bool) → (y == d) ≡ b → b ≡ false
-    either true e = absurd (apart (eqb-true y d e))
-    either false e = refl
-
 pub on_arrived : (w : World) (x d hops : ℕ) → IsInvariant w → x < length w.nodes → IsOn w x d d hops → Ends w x d (Arrived hops)
 on_arrived w x d hops inv l on =
     let short : hops + 1 ≤ length w.nodes = on_short w x d d hops inv l on in
     let left : on.most + hops ≡ length w.nodes = on.left in
     let more : (k : ℕ) × (on.most ≡ suc k) = one_more on.most w d d hops (omega arith) in
     record {
-      same = sym (on.same ∙ (ap (λ m. end_from m w d d hops) more.1 ∙ ap (λ b. if b then Arrived hops else end_at d hops (next_hop w d d) (λ y. end_from more.0 w d y (hops + 1))) (same_node d)));
+      same = sym (on.same ∙ (ap (λ m. end_from m w d d hops) more.1 ∙ ap (λ b. if b then Arrived hops else end_at d hops (next_hop w d d) (λ y. end_from more.0 w d y (hops + 1))) (eq-eqb d d refl)));
       is = leads_of w x d d hops inv l on;
     }
 
@@ -113,7 +96,7 @@ past w x d y hops inv l apart on =
     let left : on.most + hops ≡ length w.nodes = on.left in
     let more : (k : ℕ) × (on.most ≡ suc k) = one_more on.most w d y hops (omega arith) in
     let is : on.most ≡ suc more.0 = more.1 in
-    (more.0, omega arith, on.same ∙ (ap (λ m. end_from m w d y hops) is ∙ ap (λ b. if b then Arrived hops else end_at y hops (next_hop w y d) (λ z. end_from more.0 w d z (hops + 1))) (other_node y d apart)))
+    (more.0, omega arith, on.same ∙ (ap (λ m. end_from m w d y hops) is ∙ ap (λ b. if b then Arrived hops else end_at y hops (next_hop w y d) (λ z. end_from more.0 w d z (hops + 1))) (ne_eqb y d apart)))
 
 pub on_stuck : (w : World) (x d y hops : ℕ) → IsInvariant w → x < length w.nodes → y ≢ d → next_hop w y d ≡ None → IsOn w x d y hops → Ends w x d (Stuck y hops)
 on_stuck w x d y hops inv l apart none on =
@@ -132,7 +115,7 @@ on_next w x d y z hops inv l apart some on =
       others = on.others ++ z ∷ [];
       walk = walk_on w d x on.others z on.walk (subst (λ k. Edge w d k z) (sym on.ends) edge);
       ends = last_on x on.others z;
-      long = length_on on.others z ∙ ap (λ k. k + 1) on.long;
+      long = length_push on.others z ∙ ap (λ k. k + 1) on.long;
       most = p.0;
       left = omega arith;
       same = p.2 ∙ ap (λ o. end_at y hops o (λ z. end_from p.0 w d z (hops + 1))) some;

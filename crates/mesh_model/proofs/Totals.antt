@@ -1,5 +1,5 @@
 -- Totals over lists, maps and stores.
-use Rattle.std.proofs.Common.{◌≡◌, ◌≢◌, ℕ, zero, suc, ◌+◌, ◌<◌, ◌≤◌, Bool, true, false, cond, not, ◌&&◌, ◌||◌, List, [], ◌∷◌, ◌++◌, set, ◌==◌, Some, None, Option, refl, ap, ◌∙◌, arith}
+use Rattle.std.proofs.Common.{◌≡◌, ◌≢◌, ℕ, zero, suc, ◌+◌, ◌<◌, ◌≤◌, Bool, true, false, cond, not, length, ◌&&◌, ◌||◌, List, [], ◌∷◌, ◌++◌, set, ◌==◌, Some, None, Option, refl, ap, ◌∙◌, arith}
 use Rattle.std.specs.Prelude.{option_map, slice_get}
 use Rattle.std.specs.Cmp.{nat_cmp_total, unsigned_tied}
 use Rattle.std.proofs.lemmas.Bool.{eqb-true, eqb-false}
@@ -10,7 +10,7 @@ use Rattle.std.specs.FinSet as sets
 use Rattle.aodv_model.specs.Cores.{Body, Store, Waiting, add, bodies_in, drop, drop_first, needs_in, rest, unset, with_body}
 use Rattle.mesh_base.specs.Members.{NodeIds}
 use Rattle.aodv_model.proofs.Stores.{get-set, get-unset}
-use Rattle.mesh_model.specs.Accounts.{Test, counts, in_store, total, total_below}
+use Rattle.mesh_model.specs.Accounts.{Test, any, counts, in_store, total, total_below}
 
 module _ {A : Type 0} (f : A → ℕ) where
   pub total-append : (xs ys : List A) → total f (xs ++ ys) ≡ total f xs + total f ys
@@ -22,6 +22,10 @@ module _ {A : Type 0} (f : A → ℕ) where
   total-set [] i old new is = absurd (none-some old is)
   total-set (x ∷ xs) zero old new is = let e = ap f (same_Some x old is) in omega arith
   total-set (x ∷ xs) (suc i) old new is = omega (arith, total-set xs i old new is)
+
+pub all_count : (x d : ℕ) (bodies : List Body) → total (counts any x d) bodies ≡ length bodies
+all_count x d [] = refl
+all_count x d (b ∷ bodies) = let rest : total (counts any x d) bodies ≡ length bodies = all_count x d bodies in omega arith
 
 -- ---- sums below a number
 

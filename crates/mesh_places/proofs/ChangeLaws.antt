@@ -17,13 +17,14 @@ use Rattle.mesh_text.specs.Schedule as schedule
 use Rattle.mesh_text.specs.Schedule.{next_state, with_world, world_of}
 use Rattle.mesh_text.specs.Runs.{run_state_after}
 use Rattle.mesh_text.proofs.RunStates.{not_made}
+use Rattle.mesh_text.proofs.RunStateLaws.{steps_after_events}
 use Rattle.mesh_grid.specs.declared.place.Place.{Place}
 use Rattle.mesh_grid.specs.declared.place.Places.{Places}
 use Rattle.mesh_grid.specs.declared.line.Placing.{Placing}
 use Rattle.mesh_grid.specs.Places.{is_within, place_of}
 use Rattle.mesh_grid.specs.Links.{change, change_with, change_at, changes_below}
 use Rattle.mesh_grid.specs.Text.{RunState, change_line, changes}
-use Rattle.mesh_grid.proofs.PlaceSteps.{few_changes, first_changes, after-more, after-none, after-one, steps_after}
+use Rattle.mesh_grid.proofs.PlaceSteps.{few_changes, first_changes, after-more, after-none, after-one}
 use Rattle.mesh_places.specs.declared.placed.Placed.{Placed}
 use Rattle.mesh_places.specs.RunStates.{IsChange, change_lines}
 
@@ -166,7 +167,7 @@ module _ (reach : ℕ) (places : Places) (near : NodeIds) (new : Placing) where
 
   pub few_steps : (m at : schedule.RunState) (n : ℕ) → at ≡ run_state_after m (changes_below reach places near new n) → at.steps ≤ m.steps + n
   few_steps m at n is =
-      let steps : at.steps ≡ m.steps + length (changes_below reach places near new n) = ap (λ k. k.steps) is ∙ steps_after m (changes_below reach places near new n) in
+      let steps : at.steps ≡ m.steps + length (changes_below reach places near new n) = ap (λ k. k.steps) is ∙ steps_after_events m (changes_below reach places near new n) in
       let few = few_changes reach places near new n in
       omega arith
 

@@ -1,5 +1,6 @@
 -- What a line about a place comes to.
 use Rattle.std.proofs.Common.{◌≡◌, ℕ, ◌+◌, ◌*◌, ◌≤◌, ◌||◌, Bool, true, false, if◌then◌else◌, List, [], ◌∷◌, ◌++◌, Option, Some, None, Result, Ok, Err, OnOk, length, codes, is_some, refl, sym, ap, ◌∙◌, arith}
+use Rattle.std.proofs.Math.Bool.{or-true}
 use Rattle.std.specs.Io.KnownBytes.{Appends}
 use Rattle.mesh_base.specs.declared.limits.TheConstants.{MOST_NODES, MOST_EVENTS}
 use Rattle.mesh_base.specs.Meshes.{Nodes}
@@ -15,6 +16,7 @@ use Rattle.mesh_text.specs.Schedule.{AcceptedLine, with_line_read, line_of, worl
 use Rattle.mesh_text.specs.Runs.{run_state_after}
 use Rattle.mesh_text.specs.Text as text
 use Rattle.mesh_text.specs.Text.{LineOutcome, On, Refused, text_in, outcome_of_read}
+use Rattle.mesh_text.proofs.RunStateLaws.{steps_after_events}
 use Rattle.mesh_run.specs.declared.stop.Stop.{Stop}
 use Rattle.mesh_run.specs.declared.stop.Stop.TheVariants as stop
 use Rattle.mesh_run.specs.Runs.{IsLineDone, IsLineStopped}
@@ -23,7 +25,7 @@ use Rattle.mesh_grid.specs.Lines.{placing_of}
 use Rattle.mesh_grid.specs.Links.{may_come}
 use Rattle.mesh_grid.specs.Runs.{events_of_placing}
 use Rattle.mesh_grid.specs.Text.{RunState, has_begun, changes, outcome_of_placing, outcome_of_piece, other_line}
-use Rattle.mesh_grid.proofs.PlaceSteps.{came-placing, came-other, other_line_is_as_in_schedule, other-same, few_changes, after-none, steps_after, lines_after}
+use Rattle.mesh_grid.proofs.PlaceSteps.{came-placing, came-other, other_line_is_as_in_schedule, other-same, few_changes, after-none, lines_after}
 use Rattle.mesh_places.specs.RunStates.{change_lines, below, IsWant}
 
 -- ---- a line about a place
@@ -97,7 +99,7 @@ some_bytes mesh (b ∷ bs) new said = omega arith
 pub steps_grow : (reach : ℕ) (m : RunState) (bytes : List ℕ) (new : Placing) (n : schedule.RunState) → length m.run.mesh ≤ MOST_NODES → placing_of m.run.mesh bytes ≡ Ok (Some new) → n ≡ with_line_read (after_coming reach m new)
     → 4 * n.steps ≤ 4 * m.run.steps + MOST_EVENTS * length bytes
 steps_grow reach m bytes new n few said is =
-    let steps : n.steps ≡ m.run.steps + length (events_of_placing reach m new) = ap (λ k. k.steps) is ∙ steps_after m.run (events_of_placing reach m new) in
+    let steps : n.steps ≡ m.run.steps + length (events_of_placing reach m new) = ap (λ k. k.steps) is ∙ steps_after_events m.run (events_of_placing reach m new) in
     let events = few_events reach m new in
     let some = some_bytes m.run.mesh bytes new said in
     omega arith
@@ -127,12 +129,8 @@ refused_late m bytes f begun is = ap (λ b. line_of m.run.mesh b bytes) (begun_l
 pub as_begun : (reach : ℕ) (m : RunState) (bytes : List ℕ) → placing_of m.run.mesh bytes ≡ Ok None → m.places.begun ≡ false → outcome_of_piece reach m (Whole bytes) ≡ text.outcome_of_piece m.run (Whole bytes)
 as_begun reach m bytes said begun = other-same reach m bytes said (ap (λ b. b || is_some m.run.world) begun)
 
-or_true : (b : Bool) → (b || true) ≡ true
-or_true true = refl
-or_true false = refl
-
 pub as_made : (reach : ℕ) (m : RunState) (bytes : List ℕ) → placing_of m.run.mesh bytes ≡ Ok None → is_some m.run.world ≡ true → outcome_of_piece reach m (Whole bytes) ≡ text.outcome_of_piece m.run (Whole bytes)
-as_made reach m bytes said made = other-same reach m bytes said (ap (λ b. m.places.begun || b) made ∙ or_true m.places.begun ∙ sym made)
+as_made reach m bytes said made = other-same reach m bytes said (ap (λ b. m.places.begun || b) made ∙ or-true m.places.begun ∙ sym made)
 
 pub refused_so : (reach : ℕ) (m : RunState) (bytes : List ℕ) (f : LineFault) → placing_of m.run.mesh bytes ≡ Ok None → other_line m bytes ≡ Err f → outcome_of_piece reach m (Whole bytes) ≡ Refused (Fault f)
 refused_so reach m bytes f said is = came-other reach m bytes said ∙ ap (outcome_of_read m.run) is

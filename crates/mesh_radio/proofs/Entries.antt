@@ -13,14 +13,14 @@ use Rattle.mesh_base.specs.Members.{member_list}
 use Rattle.aodv_wire.specs.Encodes.{is_data}
 use Rattle.mesh_radio.specs.Copies.{find_copy, without, copies_to, data_in, AreNumbered}
 use Rattle.mesh_radio.specs.Kept.{copies_in, AreSlots}
-use Rattle.mesh_radio.proofs.Orders.{remove_here, remove_other}
 use Rattle.mesh_radio.proofs.Finds.{absent, without_none}
-use Rattle.mesh_base.proofs.Ranks.{members-all}
+use Rattle.mesh_base.proofs.Ranks.{members-all, rises-bound}
 use Rattle.mesh_radio.proofs.Numbered.{numbered, outside, found_in, taken_in, one_less, data_less, few_copies, data_append}
 use Rattle.indexmap.specs.IndexMap.{insert_entry, set_value_at}
 use Rattle.mesh_radio.specs.Casts.{Entry, size, slot, slots_of, slots_at, copies_of, AreRising, AreLeft, IsSplit, IsFound, AreSorted, entry_of, slot_for, copy_of, without_to}
 use Rattle.mesh_radio.specs.declared.casts.Cast.{Cast}
 use Rattle.mesh_base.proofs.Ranks.{Rises, members-sorted}
+use Rattle.mesh_base.proofs.Lemmas.Sets.{remove_here, remove_other}
 
 -- ---- the slots of one cast
 
@@ -493,11 +493,5 @@ pub rises-to : (low next : ℕ) (xs : List ℕ) → Rises low xs next → low �
 rises-to low next [] r = r
 rises-to low next (x ∷ xs) r = let up = r.0 in let rest = rises-to (x + 1) next xs r.1 in omega arith
 
-rises-within : (low next k m : ℕ) (xs : List ℕ) → Rises low xs next → slice_get xs k ≡ Some m → m < next
-rises-within low next zero m [] r at = absurd cc
-rises-within low next (suc k) m [] r at = absurd cc
-rises-within low next zero m (x ∷ xs) r at = let same = same_Some x m at in let up = rises-to (x + 1) next xs r.1 in omega arith
-rises-within low next (suc k) m (x ∷ xs) r at = rises-within (x + 1) next k m xs r.1 at
-
 pub found-below : (es : List Entry) (id index to : ℕ) → IsFound es id index to → to < 256
-found-below es id index to f = rises-within 0 256 (id - (f.entry).0) to (member_list ((f.entry).1).to) (members-sorted 256 ((f.entry).1).to) f.member
+found-below es id index to f = rises-bound 0 256 (id - (f.entry).0) to (member_list ((f.entry).1).to) (members-sorted 256 ((f.entry).1).to) f.member

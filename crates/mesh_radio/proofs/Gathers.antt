@@ -11,13 +11,13 @@ use Rattle.indexmap.specs.IndexMap.{set_value_at}
 use Rattle.mesh_base.specs.Members.{NodeIds, IsLeastFrom, members_below, member_list}
 use Rattle.mesh_base.specs.declared.events.Flying.{Flying}
 use Rattle.mesh_base.proofs.Ranks.{Rises, members-none, members-next, members-sorted}
+use Rattle.mesh_base.proofs.Lemmas.Sets.{insert_here, insert_other}
 use Rattle.mesh_radio.specs.Copies.{find_copy}
 use Rattle.mesh_radio.specs.Kept.{copies_in}
 use Rattle.mesh_radio.specs.Casts.{Entry, AreCasts, AreLeft, AreRising, HasNone, IsAlone, IsLeast, IsLeastOf, copies_before, copies_of, size, slot, slots_at, slots_of}
 use Rattle.mesh_radio.specs.Gathered.{IsNextOf, with_receiver}
 use Rattle.mesh_radio.specs.declared.casts.Cast.{Cast}
 use Rattle.mesh_radio.specs.declared.casts.Least.{Least}
-use Rattle.mesh_radio.proofs.Orders.{insert_here, insert_other}
 use Rattle.mesh_radio.proofs.Joins.{rising-last, slots-append}
 use Rattle.mesh_radio.proofs.Entries.{copies_append, all-set, find-all, find-append, first_of, rises-to, slot-there, set-here}
 use Rattle.mesh_radio.proofs.Nexts.{lefts-at, next-within}

@@ -5,11 +5,13 @@ use Rattle.std.specs.Ordering.{nat_cmp}
 use Rattle.std.specs.Cmp.{nat_cmp_total}
 use Rattle.std.specs.FinSet.{empty, contains, insert, remove, contains-empty, same_set, nat_cmp-IsAntisymmetric}
 use Rattle.mesh_base.specs.Members.{NodeIds}
+use Rattle.mesh_base.proofs.Lemmas.Sets.{insert_here, insert_other, remove_here, remove_other}
 use Rattle.aodv_model.specs.Pairs.{Pairs, pair_cmp}
 use Rattle.mesh_model.specs.Worlds.{pair, are_linked, linked_below}
+use Rattle.mesh_model.proofs.Links.{below_hit, below_miss, pair_up}
 use Rattle.mesh_radio.specs.Kept.{graph_of, row, with_row, pairs_below, AreMutual}
 use Rattle.aodv_model.proofs.PairLaws.{pair_cmp_total, same_pair}
-use Rattle.mesh_radio.proofs.Orders.{cases_pair, insert_here, insert_other, remove_here, remove_other}
+use Rattle.mesh_radio.proofs.Orders.{cases_pair}
 
 -- ---- rows
 
@@ -111,9 +113,6 @@ pairs-not rows x y le = pairs_below-miss (length rows) rows x y (λ _ up. absurd
 
 -- ---- links
 
-pair-up : (a b : ℕ) → a < b → pair a b ≡ (a, b)
-pair-up a b lt = let x : min a b ≡ a = omega arith in let y : max a b ≡ b = omega arith in λ i. (x i, y i)
-
 pair-down : (a b : ℕ) → b < a → pair a b ≡ (b, a)
 pair-down a b lt = let x : min a b ≡ b = omega arith in let y : max a b ≡ a = omega arith in λ i. (x i, y i)
 
@@ -125,7 +124,7 @@ pub linked-is : (rows : List NodeIds) (a b : ℕ) → AreMutual rows → are_lin
 linked-is rows a b are = elim (cases_eq a b) [
   | inl same ↦ ap (contains (pairs_of rows)) (pair-same a b same) ∙ pairs-not rows a a (omega arith) ∙ sym (ap (contains (row rows a)) (sym same) ∙ are.apart a)
   | inr ne ↦ elim (cases_lt a b) [
-    | inl lt ↦ ap (contains (pairs_of rows)) (pair-up a b lt) ∙ pairs-has rows a b lt ∙ are.both_ways b a
+    | inl lt ↦ ap (contains (pairs_of rows)) (pair_up a b lt) ∙ pairs-has rows a b lt ∙ are.both_ways b a
     | inr le ↦ ap (contains (pairs_of rows)) (pair-down a b (omega arith)) ∙ pairs-has rows b a (omega arith)
   ]
 ]
@@ -133,38 +132,12 @@ linked-is rows a b are = elim (cases_eq a b) [
 pub member-below : (rows : List NodeIds) (a q : ℕ) → AreMutual rows → contains (row rows a) q ≡ true → q < length rows
 member-below rows a q are is = elim (cases_lt q (length rows)) [ inl lt ↦ lt | inr le ↦ let off = are.both_ways a q ∙ past rows q a le in cc ]
 
-below-hit : (links : Pairs) (a n q : ℕ) → q < n → are_linked links a q ≡ true → contains (linked_below links a n) q ≡ true
-below-hit links a zero q lt is = absurd (omega arith)
-below-hit links a (suc n) q lt is = elim (cases_eq q n) [
-  | inl same ↦
-      let here : are_linked links a n ≡ true = ap (are_linked links a) (sym same) ∙ is in
-      rw (here, same) (insert_here nat_cmp_total nat_cmp-IsAntisymmetric (linked_below links a n) n)
-  | inr ne ↦
-      let before = below-hit links a n q (omega arith) is in
-      elim (are_linked links a n) as (λ b. contains (cond b (insert (linked_below links a n) n) (linked_below links a n)) q ≡ true) [
-        | true ↦ insert_other nat_cmp_total nat_cmp-IsAntisymmetric (linked_below links a n) n q ne ∙ before
-        | false ↦ before
-      ]
-]
-
-below-miss : (links : Pairs) (a n q : ℕ) → (q < n → are_linked links a q ≡ false) → contains (linked_below links a n) q ≡ false
-below-miss links a zero q none = contains-empty nat_cmp q
-below-miss links a (suc n) q none =
-    let before = below-miss links a n q (λ lt. none (omega arith)) in
-    elim (are_linked links a n) as (λ b. are_linked links a n ≡ b → contains (cond b (insert (linked_below links a n) n) (linked_below links a n)) q ≡ false) [
-      | true ↦ λ is. insert_other nat_cmp_total nat_cmp-IsAntisymmetric (linked_below links a n) n q (λ e.
-          let off = none (omega arith) in
-          let on : are_linked links a q ≡ true = ap (are_linked links a) e ∙ is in
-          cc) ∙ before
-      | false ↦ λ _. before
-    ] refl
-
 -- the neighbours kept are the nodes that are linked
 pub neighbours-are : (rows : List NodeIds) (a : ℕ) → AreMutual rows → row rows a ≡ linked_below (pairs_of rows) a (length rows)
 neighbours-are rows a are = same_set nat_cmp_total nat_cmp-IsAntisymmetric (row rows a) (linked_below (pairs_of rows) a (length rows)) (λ q.
     elim (contains (row rows a) q) as (λ b. contains (row rows a) q ≡ b → b ≡ contains (linked_below (pairs_of rows) a (length rows)) q) [
-      | true ↦ λ is. sym (below-hit (pairs_of rows) a (length rows) q (member-below rows a q are is) (linked-is rows a q are ∙ is))
-      | false ↦ λ is. sym (below-miss (pairs_of rows) a (length rows) q (λ _. linked-is rows a q are ∙ is))
+      | true ↦ λ is. sym (below_hit (pairs_of rows) a (length rows) q (member-below rows a q are is) (linked-is rows a q are ∙ is))
+      | false ↦ λ is. sym (below_miss (pairs_of rows) a (length rows) q (λ _. linked-is rows a q are ∙ is))
     ] refl)
 
 -- ---- a change of one link
@@ -265,7 +238,7 @@ changed_else rows rows' a b now ch p off = elim (cases_lt p.0 p.1) [
       pairs-has rows' p.0 p.1 up
       ∙ ch.others p.1 p.0
       (λ e f. off (let lt : b < a = omega arith in (λ i. (f i, e i)) ∙ sym (pair-down a b lt)))
-      (λ e f. off (let lt : a < b = omega arith in (λ i. (f i, e i)) ∙ sym (pair-up a b lt)))
+      (λ e f. off (let lt : a < b = omega arith in (λ i. (f i, e i)) ∙ sym (pair_up a b lt)))
       ∙ sym (pairs-has rows p.0 p.1 up)
   | inr le ↦ pairs-not rows' p.0 p.1 le ∙ sym (pairs-not rows p.0 p.1 le)
 ]

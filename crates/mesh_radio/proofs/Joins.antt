@@ -13,14 +13,14 @@ use Rattle.std.specs.Map.Calls.{RetainsPairs}
 use Rattle.mesh_base.specs.declared.events.Flying.{Flying}
 use Rattle.mesh_base.specs.Members.{NodeIds, members_below, member_list, rank}
 use Rattle.mesh_base.proofs.Ranks.{member-rank}
+use Rattle.mesh_base.proofs.Lemmas.Sets.{remove_here, remove_other}
 use Rattle.mesh_radio.specs.Copies.{AreBefore}
 use Rattle.mesh_radio.specs.Kept.{copies_in, AreSlots}
 use Rattle.mesh_radio.specs.Casts.{Entry, AreCasts, AreLeft, AreRising, IsAlone, IsCut, IsFront, copies_of, size, slot, slots_of, slots_at}
 use Rattle.mesh_radio.specs.declared.casts.Cast.{Cast}
-use Rattle.mesh_radio.proofs.Orders.{remove_here, remove_other}
 use Rattle.mesh_radio.proofs.Finds.{all-found}
 use Rattle.mesh_radio.proofs.Numbered.{found_in}
-use Rattle.mesh_radio.proofs.Entries.{slots-are, slots-get, slot-there}
+use Rattle.mesh_radio.proofs.Entries.{slots-are, slots-get, slot-there, copies_append}
 use Rattle.mesh_radio.proofs.Sweeps.{rising-weak}
 
 -- ---- the front of a set
@@ -96,11 +96,6 @@ slots-to : (c : Cast) (to : NodeIds) (k : ℕ) (tos : List ℕ) → slots_of (re
 slots-to c to k [] = refl
 slots-to c to k (x ∷ tos) = ap (λ (ss : List (Option Flying)). slot c k x ∷ ss) (slots-to c to (k + 1) tos)
 
-copies_in-append : (xs ys : List (Option Flying)) → copies_in (xs ++ ys) ≡ copies_in xs ++ copies_in ys
-copies_in-append [] ys = refl
-copies_in-append (None ∷ xs) ys = copies_in-append xs ys
-copies_in-append (Some c ∷ xs) ys = ap (λ (cs : List Flying). c ∷ cs) (copies_in-append xs ys)
-
 before-split : (id : ℕ) (xs ys : List Flying) → AreBefore id (xs ++ ys) → AreBefore id xs × AreBefore id ys
 before-split id [] ys all = (tt, all)
 before-split id (x ∷ xs) ys all = let rest = before-split id xs ys all.1 in ((all.0, rest.0), rest.1)
@@ -125,7 +120,7 @@ module _ (id k : ℕ) (c : Cast) (to : NodeIds) (lt : k < id) (before : AreBefor
       → copies_in (slots_of c k whole) ≡ copies_in (slots_of c k xs)
   rest-none xs parts out =
       let rest = slots_of c (k + length xs) (drop (id - k) whole) in
-      let split = ap copies_in parts ∙ copies_in-append (slots_of c k xs) rest in
+      let split = ap copies_in parts ∙ copies_append (slots_of c k xs) rest in
       let late = (before-split id (copies_in (slots_of c k xs)) (copies_in rest) (subst (AreBefore id) split before)).1 in
       let none : copies_in rest ≡ [] = elim out [
         | inl le ↦ late-none id (k + length xs) rest (slots-are c (k + length xs) (drop (id - k) whole)) le late

@@ -10,9 +10,9 @@ use Rattle.std.proofs.lemmas.Option.{same_Some, slice_get_within}
 use Rattle.indexmap.specs.IndexMap.{set_value_at}
 use Rattle.mesh_base.specs.Members.{member_list, rank}
 use Rattle.mesh_base.proofs.Ranks.{members-all, members-sorted, member-rank, rises-bound}
+use Rattle.mesh_base.proofs.Lemmas.Sets.{remove_here}
 use Rattle.mesh_radio.specs.Casts.{Entry, AreCasts, AreGone, AreLeft, AreRising, IsFound, IsTidied, copies_of, has_left, size, without_packet, without_to}
 use Rattle.mesh_radio.specs.declared.casts.Cast.{Cast}
-use Rattle.mesh_radio.proofs.Orders.{remove_here}
 use Rattle.mesh_radio.proofs.Entries.{IsLess, all-at, found-taken, left-taken, set-here}
 use Rattle.mesh_radio.proofs.Changes.{casts-taken, casts-tidied}
 use Rattle.mesh_radio.proofs.Sweeps.{gone-taken, gone-without-packet, packet-tidied, untouched}

@@ -1,7 +1,6 @@
 -- The lines of copies, one after another.
-use Rattle.std.proofs.Common.{◌≡◌, ◌<◌, ◌≤◌, ℕ, zero, suc, ◌+◌, true, false, cond, List, [], ◌∷◌, ◌++◌, length, refl, sym, ap, ◌∙◌, append_assoc, append-nil, arith}
+use Rattle.std.proofs.Common.{◌≡◌, ◌<◌, ◌≤◌, ℕ, suc, ◌+◌, true, false, List, [], ◌∷◌, ◌++◌, length, refl, sym, ap, ◌∙◌, append_assoc, append-nil, arith}
 use Rattle.std.specs.FinSet.{contains}
-use Rattle.std.proofs.lemmas.List.{length_push}
 use Rattle.mesh_base.specs.Members.{NodeIds}
 use Rattle.mesh_base.specs.Meshes.{Nodes}
 use Rattle.mesh_model.specs.Worlds.{members_below}
@@ -17,21 +16,6 @@ copies-append mesh (x ∷ xs) ys id =
     ap (λ (l : List ℕ). copy_line mesh id x ++ l) (copies-append mesh xs ys (id + 1))
     ∙ sym (append_assoc (copy_line mesh id x) (copy_lines mesh (id + 1) xs) (copy_lines mesh (id + 1 + length xs) ys))
     ∙ ap (λ (n : ℕ). (copy_line mesh id x ++ copy_lines mesh (id + 1) xs) ++ copy_lines mesh n ys) same
-
-pub members-few : (n : ℕ) (s : NodeIds) → length (members_below n s) ≤ n
-unfolding members_below
-members-few zero s = omega arith
-members-few (suc n) s =
-    let before = members-few n s in
-    elim (contains s n) as (λ b. length (cond b (members_below n s ++ n ∷ []) (members_below n s)) ≤ suc n) [
-      | true ↦ omega (arith, length_push (members_below n s) n)
-      | false ↦ omega arith
-    ]
-
--- how many members there are, with the next one
-pub members-count : (m i : ℕ) (s : NodeIds) → i ≤ m → contains s m ≡ true → ((q : ℕ) → i ≤ q → q < m → contains s q ≡ false)
-    → length (members_below (m + 1) s) ≡ length (members_below i s) + 1
-members-count m i s le is none = ap (λ (l : List ℕ). length l) (members-next m i s le is none) ∙ length_push (members_below i s) m
 
 -- the line for the next receiver
 pub next_copy : (mesh : Nodes) (s : NodeIds) (first to i id : ℕ) → i ≤ to → contains s to ≡ true → ((q : ℕ) → i ≤ q → q < to → contains s q ≡ false) → id ≡ first + length (members_below i s)

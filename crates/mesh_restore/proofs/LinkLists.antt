@@ -1,26 +1,29 @@
 -- How the links grow by one that comes last.
-use Rattle.std.proofs.Common.{◌≡◌, ◌≢◌, ℕ, ◌+◌, ◌*◌, ◌^◌, ◌<◌, ◌≤◌, Bool, true, false, List, [], ◌∷◌, ◌++◌, map, Some, None, refl, sym, ap, subst, ◌∙◌, arith, inl, inr}
-use Rattle.std.specs.Prelude.{◌||◌, not, min, max}
+use Rattle.std.proofs.Common.{◌≡◌, ℕ, ◌+◌, ◌*◌, ◌^◌, ◌<◌, ◌≤◌, Bool, true, false, List, [], ◌∷◌, ◌++◌, map, Some, None, refl, sym, ap, subst, ◌∙◌, arith, inl, inr}
+use Rattle.std.specs.Prelude.{◌||◌, not}
 use Rattle.std.specs.Bool.{OnTrue}
 use Rattle.std.specs.declared.cmp.Ordering.{Ordering}
-use Rattle.std.specs.declared.cmp.Ordering.TheVariants.{Less, Equal, Greater}
-use Rattle.std.specs.Ordering.{nat_cmp, ordering_then, eq_by_cmp, is_eq}
+use Rattle.std.specs.declared.cmp.Ordering.TheVariants.{Equal, Greater}
+use Rattle.std.specs.Ordering.{nat_cmp, ordering_then, eq_by_cmp}
 use Rattle.std.specs.List.{AllByRecursion}
 use Rattle.std.specs.Cmp.{nat_cmp_is, tied_itself}
 use Rattle.std.proofs.lemmas.Bool.{cases_lt}
 use Rattle.std.proofs.lemmas.List.{map_push}
 use Rattle.std.specs.FinMap as maps
 use Rattle.std.specs.FinSet as sets
+use Rattle.mesh_base.proofs.Lemmas.Sets.{insert_here, insert_other, remove_here, remove_other}
 use Rattle.aodv_model.specs.Pairs.{Pairs, pair_cmp, as_keys, pairs_in}
 use Rattle.aodv_model.proofs.PairLaws.{pair_cmp_total, same_pair}
+use Rattle.aodv_model.proofs.Keys.{greater}
 use Rattle.mesh_model.specs.Worlds.{pair, are_linked}
+use Rattle.mesh_model.proofs.Links.{pair_up}
 use Rattle.mesh_radio.specs.Radios.{RadioState, with_link, without_link}
 use Rattle.mesh_checkpoint.specs.Formats.{get_rising}
 use Rattle.mesh_checkpoint.specs.Checkpoint as model
 use Rattle.mesh_checkpoint.specs.Checkpoint.{Link, link_key}
 use Rattle.mesh_checkpoint.specs.Points.{links_of}
 use Rattle.mesh_restore.specs.RadioParts.{IsLinkKept, ArePassed}
-use Rattle.mesh_restore.proofs.Listings.{all_weaker, all_push, nat_greater}
+use Rattle.mesh_restore.proofs.Listings.{all_weaker, all_push}
 use Rattle.mesh_restore.proofs.PairLists.{AreBeforePair, last_key, last_pair, new_pair, same_values, no_keys}
 use Rattle.mesh_checkpoint.proofs.Loop.{IsReadSoFar, starts, goes_on, ends, falls, is_done}
 
@@ -60,11 +63,11 @@ AreLinksBelow low s = AllByRecursion (λ e. ((e.0).0 * 2 ^ 16 + (e.0).1 < low) �
 
 link_greater : (p q : ℕ × ℕ) → q.1 < 2 ^ 16 → p.1 < 2 ^ 16 → q.0 * 2 ^ 16 + q.1 < p.0 * 2 ^ 16 + p.1 → pair_cmp p q ≡ Greater
 link_greater p q small_q small_p lt = elim (cases_lt q.0 p.0) [
-  | inl less ↦ ap (λ (r : Ordering). ordering_then r (nat_cmp p.1 q.1)) (nat_greater p.0 q.0 less)
+  | inl less ↦ ap (λ (r : Ordering). ordering_then r (nat_cmp p.1 q.1)) (greater p.0 q.0 less)
   | inr not_less ↦
       let same : p.0 ≡ q.0 = omega (arith, lt, not_less, small_q, small_p) in
       let second : q.1 < p.1 = omega (arith, lt, same) in
-      ap (λ (r : Ordering). ordering_then r (nat_cmp p.1 q.1)) (sym (nat_cmp_is p.0 q.0 Equal same)) ∙ nat_greater p.1 q.1 second
+      ap (λ (r : Ordering). ordering_then r (nat_cmp p.1 q.1)) (sym (nat_cmp_is p.0 q.0 Equal same)) ∙ greater p.1 q.1 second
 ]
 
 pub before_link : (s : Pairs) (low : ℕ) (p : ℕ × ℕ) → AreLinksBelow low s → low ≤ p.0 * 2 ^ 16 + p.1 → p.1 < 2 ^ 16 → AreBeforePair p s
@@ -117,55 +120,30 @@ still_linked_below r s low p stands above below up small next k = rw k.ever (lin
 
 -- ---- a link that comes to stand, or to have stood
 
-pair_is : (a b : ℕ) → a < b → pair a b ≡ (a, b)
-pair_is a b lt =
-    let x : min a b ≡ a = omega (arith, lt) in
-    let y : max a b ≡ b = omega (arith, lt) in
-    λ i. (x i, y i)
-
 same_by : (p : ℕ × ℕ) → eq_by_cmp pair_cmp p p ≡ true
 same_by p = rw (tied_itself pair_cmp_total p) refl
 
-other_by : (q p : ℕ × ℕ) → q ≢ p → eq_by_cmp pair_cmp q p ≡ false
-other_by q p ne = elim (pair_cmp q p) as (λ r. pair_cmp q p ≡ r → is_eq r ≡ false) [
-  | Less ↦ λ is. refl
-  | Equal ↦ λ is. absurd (ne (same_pair q p is))
-  | Greater ↦ λ is. refl
-] refl
-
-there : (s : Pairs) (p : ℕ × ℕ) → sets.contains (sets.insert s p) p ≡ true
-there s p = sets.contains-insert pair_cmp_total s p p ∙ rw (same_by p) refl
-
-elsewhere_same : (s : Pairs) (p q : ℕ × ℕ) → q ≢ p → sets.contains (sets.insert s p) q ≡ sets.contains s q
-elsewhere_same s p q ne = sets.contains-insert pair_cmp_total s p q ∙ rw (other_by q p ne) refl
-
-gone : (s : Pairs) (p : ℕ × ℕ) → sets.contains (sets.remove s p) p ≡ false
-gone s p = sets.contains-remove pair_cmp_total s p p ∙ rw (same_by p) refl
-
-elsewhere_left : (s : Pairs) (p q : ℕ × ℕ) → q ≢ p → sets.contains (sets.remove s p) q ≡ sets.contains s q
-elsewhere_left s p q ne = sets.contains-remove pair_cmp_total s p q ∙ rw (other_by q p ne) refl
-
 pub link_made : (r s : RadioState) (a b : ℕ) (fresh : Bool) → a < b → sets.contains r.links (a, b) ≡ false → fresh ≡ not (are_linked r.links a b) → OnTrue fresh (s ≡ with_link r a b) → s ≡ with_link r a b
 link_made r s a b fresh lt none is made =
-    let yes : fresh ≡ true = is ∙ ap (λ (p : ℕ × ℕ). not (sets.contains r.links p)) (pair_is a b lt) ∙ ap not none in
+    let yes : fresh ≡ true = is ∙ ap (λ (p : ℕ × ℕ). not (sets.contains r.links p)) (pair_up a b lt) ∙ ap not none in
     subst (λ (f : Bool). OnTrue f (s ≡ with_link r a b)) yes made
 
 pub link_stands : (r s : RadioState) (a b : ℕ) → a < b → s ≡ with_link r a b → IsLinkKept r s (a, b) true
-link_stands r s a b lt is = rw (is, pair_is a b lt) record {
+link_stands r s a b lt is = rw (is, pair_up a b lt) record {
   ever = refl;
-  here = there r.links (a, b);
-  elsewhere = λ q ne. elsewhere_same r.links (a, b) q ne;
+  here = insert_here pair_cmp_total same_pair r.links (a, b);
+  elsewhere = λ q ne. insert_other pair_cmp_total same_pair r.links (a, b) q ne;
   others = refl;
 }
 
 pub link_fell : (r s t : RadioState) (a b : ℕ) (stood : Bool) → a < b → s ≡ with_link r a b → stood ≡ are_linked s.links a b → OnTrue stood (t ≡ without_link s a b) → IsLinkKept r t (a, b) false
 link_fell r s t a b stood lt is stood_is cut =
-    let yes : stood ≡ true = stood_is ∙ ap (λ (x : RadioState). are_linked x.links a b) is ∙ there r.links (pair a b) in
+    let yes : stood ≡ true = stood_is ∙ ap (λ (x : RadioState). are_linked x.links a b) is ∙ insert_here pair_cmp_total same_pair r.links (pair a b) in
     let t_is : t ≡ without_link (with_link r a b) a b = subst (λ (f : Bool). OnTrue f (t ≡ without_link s a b)) yes cut ∙ ap (λ (x : RadioState). without_link x a b) is in
-    rw (t_is, pair_is a b lt) record {
+    rw (t_is, pair_up a b lt) record {
       ever = refl;
-      here = gone (sets.insert r.links (a, b)) (a, b);
-      elsewhere = λ q ne. elsewhere_left (sets.insert r.links (a, b)) (a, b) q ne ∙ elsewhere_same r.links (a, b) q ne;
+      here = remove_here pair_cmp_total same_pair (sets.insert r.links (a, b)) (a, b);
+      elsewhere = λ q ne. remove_other pair_cmp_total same_pair (sets.insert r.links (a, b)) (a, b) q ne ∙ insert_other pair_cmp_total same_pair r.links (a, b) q ne;
       others = refl;
     }
 

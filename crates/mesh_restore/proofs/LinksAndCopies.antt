@@ -1,6 +1,6 @@
 -- The links, the id of the next copy and the copies, one after another.
 use Rattle.std.proofs.Common.{◌≡◌, ℕ, ◌+◌, ◌≤◌, Bool, List, Option, Some, None, refl, sym, ap, ◌∙◌}
-use Rattle.std.specs.Prelude.{unwrap_or}
+use Rattle.std.proofs.lemmas.Option.{same_Some}
 use Rattle.std.specs.Int.{w64}
 use Rattle.mesh_base.specs.declared.events.Flying.{Flying}
 use Rattle.mesh_radio.specs.Radios.{RadioState, opening}
@@ -53,7 +53,7 @@ radio_part_at : (nodes count next many : ℕ) (bytes r s t u : List ℕ) (ls : L
     → (radio_part nodes).get bytes ≡ (copy_list nodes next many u >>= as_aired ls next)
 radio_part_at nodes count next many bytes r s t u ls one two three four = rw (one, two, three, four) (collapse ls next many (copy_list nodes next many u))
 
-still : {A B : Type 0} (e : ReadError) (o : Option A) (f : A → Option B) → Refuses e o → Refuses e (o >>= f)
+pub still : {A B : Type 0} (e : ReadError) (o : Option A) (f : A → Option B) → Refuses e o → Refuses e (o >>= f)
 still Spelling o f none = rw none refl
 still NoMemory o f none = tt
 
@@ -64,13 +64,10 @@ copies_not_read nodes count next many bytes r s t u ls e one two three four refu
 
 -- ---- all is read
 
-same_read : {A : Type 0} (x y : A) → Some x ≡ Some y → x ≡ y
-same_read x y e = ap (λ o. unwrap_or o x) e
-
 pub radio_part_read : (nodes count next many : ℕ) (bytes r s t u rest behind : List ℕ) (first linked radio : RadioState) (apart : Bool) → next ≤ GREATEST_NEXT_ID → model.any16.get bytes ≡ Some (count, r) → ArePassed (link_list nodes count r) s → number_at w64 1 (GREATEST_NEXT_ID + 1) s ≡ Some (next, t) → model.any32.get t ≡ Some (many, u)
     → first ≡ record (opening nodes) { next_copy = next } → AreLinksRead (link_list nodes count r) first linked behind → AreCopiesRead (copy_list nodes next many u) linked radio apart rest → IsRadioPartRead nodes ((radio_part nodes).get bytes) radio apart rest
 radio_part_read nodes count next many bytes r s t u rest behind first linked radio apart most one p three four first_is l c =
-    let same : (p.found, s) ≡ (links_of linked.ever linked.links, behind) = same_read (p.found, s) (links_of linked.ever linked.links, behind) (sym p.read_is ∙ l.read_is) in
+    let same : (p.found, s) ≡ (links_of linked.ever linked.links, behind) = same_Some (p.found, s) (links_of linked.ever linked.links, behind) (sym p.read_is ∙ l.read_is) in
     let links_are : p.found ≡ links_of linked.ever linked.links = ap (λ (x : List Link × List ℕ). x.0) same in
     let ever_is : radio.ever ≡ linked.ever = ap (λ (x : RadioState). x.ever) c.others in
     let standing : radio.links ≡ linked.links = ap (λ (x : RadioState). x.links) c.others in

@@ -1,23 +1,22 @@
 -- How what is listed grows by what comes last.
-use Rattle.std.proofs.Common.{◌≡◌, ◌≢◌, ℕ, zero, suc, ◌+◌, ◌<◌, ◌≤◌, Bool, true, false, eqb, eq-eqb, List, [], ◌∷◌, ◌++◌, refl, sym, ap, ◌∙◌, arith}
-use Rattle.std.specs.Prelude.{◌||◌}
+use Rattle.std.proofs.Common.{◌≡◌, ℕ, zero, suc, ◌+◌, ◌<◌, ◌≤◌, false, List, [], ◌∷◌, ◌++◌, refl, sym, ap, ◌∙◌, arith}
 use Rattle.std.specs.declared.cmp.Ordering.{Ordering}
 use Rattle.std.specs.declared.cmp.Ordering.TheVariants.{Greater}
 use Rattle.std.specs.Ordering.{nat_cmp}
-use Rattle.std.specs.Cmp.{IsTotalOrder, nat_cmp_total, nat_cmp_is}
+use Rattle.std.specs.Cmp.{IsTotalOrder, nat_cmp_total}
 use Rattle.std.specs.List.{AllByRecursion}
 use Rattle.std.specs.FinMap as maps
 use Rattle.std.specs.FinMap.{FinMap, put}
 use Rattle.std.specs.FinSet as sets
-use Rattle.std.specs.Cmp.{unsigned_tied}
-use Rattle.std.proofs.lemmas.Bool.{ne_eqb}
 use Rattle.std.proofs.lemmas.List.{nil_from_length, map_push}
 use Rattle.aodv_model.specs.declared.entry.Entry.{Entry}
 use Rattle.aodv_model.specs.Tables.{Table}
+use Rattle.aodv_model.proofs.Keys.{greater}
 use Rattle.mesh_checkpoint.specs.Points.{route_of, routes_in}
 use Rattle.mesh_restore.specs.Stores.{AreBelow}
 use Rattle.mesh_base.specs.Members.{NodeIds, members_below, member_list}
 use Rattle.mesh_base.proofs.Ranks.{members-zero, members-none, members-next}
+use Rattle.aodv_waiting.proofs.StoreLaws.{in_here, in_apart}
 
 pub all_weaker : {X : Type 0} (P Q : X → Type 0) → ((x : X) → P x → Q x) → (xs : List X) → AllByRecursion P xs → AllByRecursion Q xs
 all_weaker P Q gives [] all = tt
@@ -35,12 +34,9 @@ put_last R k v (e ∷ es) above = rw above.0 (ap (λ fs. e ∷ fs) (put_last R k
 pub entries_last : {K X : Type 0} {R : K → K → Ordering} (o : IsTotalOrder R) (m : FinMap R X) (k : K) (v : X) → AllByRecursion (λ e. R k e.0 ≡ Greater) (maps.entries m) → maps.entries (maps.insert m k v) ≡ maps.entries m ++ (k, v) ∷ []
 entries_last {R = R} o m k v above = maps.entries-insert o m k v ∙ put_last R k v (maps.entries m) above
 
-pub nat_greater : (m n : ℕ) → n < m → nat_cmp m n ≡ Greater
-nat_greater m n lt = sym (nat_cmp_is m n Greater lt)
-
 pub listed_last : {X : Type 0} (m : FinMap nat_cmp X) (low k : ℕ) (v : X) → AreBelow low m → low ≤ k → maps.entries (maps.insert m k v) ≡ maps.entries m ++ (k, v) ∷ []
 listed_last m low k v below up =
-    entries_last nat_cmp_total m k v (all_weaker (λ e. e.0 < low) (λ e. nat_cmp k e.0 ≡ Greater) (λ e lt. nat_greater k e.0 (omega (arith, lt, up))) (maps.entries m) below)
+    entries_last nat_cmp_total m k v (all_weaker (λ e. e.0 < low) (λ e. nat_cmp k e.0 ≡ Greater) (λ e lt. greater k e.0 (omega (arith, lt, up))) (maps.entries m) below)
 
 pub still_below : {X : Type 0} (m : FinMap nat_cmp X) (low k : ℕ) (v : X) → AreBelow low m → low ≤ k → AreBelow (k + 1) (maps.insert m k v)
 still_below m low k v below up =
@@ -53,17 +49,8 @@ still_below m low k v below up =
 abbrev pub AreMembersBelow : ℕ → NodeIds → Type 0
 AreMembersBelow low s = (q : ℕ) → low ≤ q → sets.contains s q ≡ false
 
-contains-added : (s : NodeIds) (i q : ℕ) → sets.contains (sets.insert s i) q ≡ (eqb q i || sets.contains s q)
-contains-added s i q = sets.contains-insert nat_cmp_total s i q ∙ ap (λ (b : Bool). b || sets.contains s q) (unsigned_tied q i)
-
-added_is : (s : NodeIds) (i : ℕ) → sets.contains (sets.insert s i) i ≡ true
-added_is s i = contains-added s i i ∙ ap (λ (b : Bool). b || sets.contains s i) (eq-eqb i i refl)
-
-others_stay : (s : NodeIds) (i q : ℕ) → q ≢ i → sets.contains (sets.insert s i) q ≡ sets.contains s q
-others_stay s i q ne = contains-added s i q ∙ ap (λ (b : Bool). b || sets.contains s q) (ne_eqb q i ne)
-
 pub members_still_below : (s : NodeIds) (low i : ℕ) → AreMembersBelow low s → low ≤ i → AreMembersBelow (i + 1) (sets.insert s i)
-members_still_below s low i below up q past = others_stay s i q (λ same. absurd (omega (arith, same, past))) ∙ below q (omega (arith, up, past))
+members_still_below s low i below up q past = in_apart s i q (λ same. absurd (omega (arith, same, past))) ∙ below q (omega (arith, up, past))
 
 members_same : (s t : NodeIds) (n : ℕ) → ((q : ℕ) → q < n → sets.contains s q ≡ sets.contains t q) → members_below n s ≡ members_below n t
 unfolding members_below
@@ -77,9 +64,9 @@ members_last s low i below up lt =
     let t = sets.insert s i in
     let none_t : (q : ℕ) → i + 1 ≤ q → q < 256 → sets.contains t q ≡ false = λ q past _. members_still_below s low i below up q past in
     let none_s : (q : ℕ) → i ≤ q → q < 256 → sets.contains s q ≡ false = λ q past _. below q (omega (arith, up, past)) in
-    let front : members_below i t ≡ members_below i s = members_same t s i (λ q q_lt. others_stay s i q (λ same. absurd (omega (arith, same, q_lt)))) in
+    let front : members_below i t ≡ members_below i s = members_same t s i (λ q q_lt. in_apart s i q (λ same. absurd (omega (arith, same, q_lt)))) in
     members-none 256 (i + 1) t (omega (arith, lt)) none_t
-    ∙ members-next i i t (omega arith) (added_is s i) (λ q up2 lt2. absurd (omega (arith, up2, lt2)))
+    ∙ members-next i i t (omega arith) (in_here s i) (λ q up2 lt2. absurd (omega (arith, up2, lt2)))
     ∙ ap (λ (ms : List ℕ). ms ++ i ∷ []) (front ∙ sym (members-none 256 i s (omega (arith, lt)) none_s))
 
 pub no_members : member_list sets.empty ≡ []

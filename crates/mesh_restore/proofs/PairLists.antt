@@ -14,9 +14,10 @@ use Rattle.std.specs.FinSet as sets
 use Rattle.aodv_model.specs.Pairs.{pair_cmp, as_keys, pairs_in}
 use Rattle.aodv_model.proofs.PairLaws.{pair_cmp_total, same_pair}
 use Rattle.aodv_model.proofs.PairKeys.{get-as_keys-insert, get-keys_of}
+use Rattle.aodv_model.proofs.Keys.{greater}
 use Rattle.aodv_model.specs.Cores.{SeenRequests}
 use Rattle.mesh_checkpoint.specs.Checkpoint.{request_key}
-use Rattle.mesh_restore.proofs.Listings.{all_weaker, all_push, entries_last, no_entries, nat_greater}
+use Rattle.mesh_restore.proofs.Listings.{all_weaker, all_push, entries_last, no_entries}
 
 -- each pair has a key below a number, and an id of 32 bits
 abbrev pub ArePairsBelow : ℕ → SeenRequests → Type 0
@@ -58,11 +59,11 @@ none_paired = rw no_keys tt
 
 key_greater : (p q : ℕ × ℕ) → q.1 < 2 ^ 32 → p.1 < 2 ^ 32 → request_key q < request_key p → pair_cmp p q ≡ Greater
 key_greater p q small_q small_p lt = elim (cases_lt q.0 p.0) [
-  | inl less ↦ ap (λ (r : Ordering). ordering_then r (nat_cmp p.1 q.1)) (nat_greater p.0 q.0 less)
+  | inl less ↦ ap (λ (r : Ordering). ordering_then r (nat_cmp p.1 q.1)) (greater p.0 q.0 less)
   | inr not_less ↦
       let same : p.0 ≡ q.0 = omega (arith, lt, not_less, small_q, small_p) in
       let second : q.1 < p.1 = omega (arith, lt, same) in
-      ap (λ (r : Ordering). ordering_then r (nat_cmp p.1 q.1)) (sym (nat_cmp_is p.0 q.0 Equal same)) ∙ nat_greater p.1 q.1 second
+      ap (λ (r : Ordering). ordering_then r (nat_cmp p.1 q.1)) (sym (nat_cmp_is p.0 q.0 Equal same)) ∙ greater p.1 q.1 second
 ]
 
 is_after : (low : ℕ) (p : ℕ × ℕ) → low ≤ request_key p → p.1 < 2 ^ 32 → (e : (ℕ × ℕ) × Unit {0}) → (request_key e.0 < low) × ((e.0).1 < 2 ^ 32) → pair_cmp p e.0 ≡ Greater

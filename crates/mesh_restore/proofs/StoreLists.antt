@@ -15,7 +15,6 @@ use Rattle.mesh_checkpoint.specs.Views.{waits_behind}
 use Rattle.mesh_checkpoint.specs.Formats.{◌>>=◌, only_if, get_times}
 use Rattle.mesh_restore.specs.Reading.{Refuses, get_from}
 use Rattle.mesh_restore.specs.declared.error.ReadError.{ReadError}
-use Rattle.mesh_restore.specs.declared.error.ReadError.TheVariants.{Spelling, NoMemory}
 use Rattle.mesh_checkpoint.specs.Checkpoint as model
 use Rattle.mesh_checkpoint.specs.Checkpoint.{Waits}
 use Rattle.mesh_restore.specs.Kept.{IsFilled, IsKeptFrom}
@@ -23,6 +22,7 @@ use Rattle.mesh_checkpoint.proofs.Loop.{IsReadInTurn, begins, one_more, is_stopp
 use Rattle.mesh_checkpoint.specs.Points.{waits_of, waits_in}
 use Rattle.mesh_restore.specs.Stores.{with_bodies, with_need, AreBelow}
 use Rattle.mesh_restore.proofs.Listings.{listed_last, still_below, no_entries}
+use Rattle.mesh_restore.proofs.LinksAndCopies.{still}
 
 get-at : {X : Type 0} (m : FinMap nat_cmp X) (k q : ℕ) (v : X) → maps.get (maps.insert m k v) q ≡ cond (eqb q k) (Some v) (maps.get m q)
 get-at m k q v = maps.get-insert nat_cmp_total m k v q ∙ ap (λ (b : Bool). cond b (Some v) (maps.get m q)) (unsigned_tied q k)
@@ -138,10 +138,6 @@ below_low d low needs (Some y) down = rw down refl
 
 pub dest_below : (nodes low : ℕ) (h : WaitsHead) (bytes r : List ℕ) → (model.waits nodes).get bytes ≡ waits_behind h r → h.dest < low → get_from (λ w. w.dest) (model.waits nodes).get low bytes ≡ None
 dest_below nodes low h bytes r one down = rw one (below_low h.dest low h.needs_request (get_times model.datum.get h.data r) (lt-leb _ _ down))
-
-still : {A B : Type 0} (e : ReadError) (o : Option A) (f : A → Option B) → Refuses e o → Refuses e (o >>= f)
-still Spelling o f none = rw none refl
-still NoMemory o f none = tt
 
 pub data_refused : (nodes low : ℕ) (h : WaitsHead) (bytes r : List ℕ) (e : ReadError) → (model.waits nodes).get bytes ≡ waits_behind h r → low ≤ h.dest → Refuses e (get_times model.datum.get h.data r) → Refuses e (get_from (λ w. w.dest) (model.waits nodes).get low bytes)
 data_refused nodes low h bytes r e one up refused =

@@ -27,7 +27,7 @@ use Rattle.mesh_router.specs.Outputs.{Outputs, Adds, AddsPrefix, IsFault, HasCau
 use Rattle.mesh_router.specs.Peers.{receivers_of, code_log, act_log}
 use Rattle.mesh_router.specs.Runs.{log_in, IsStepRun}
 use Rattle.mesh_router.specs.Joins.{adds-join, adds-none}
-use Rattle.mesh_router.proofs.Turning.{router_as, IsEffectMeant, effect_meant, log_effect, reached_is, after-log}
+use Rattle.mesh_router.proofs.Turning.{router_as, IsEffectMeant, effect_meant, log_effect, reached_is, after-log, err_is}
 
 -- ---- a send or a request
 
@@ -77,12 +77,6 @@ ask_meant p me node new near heard sent dropped l d e out is sound size may othe
 
 pub step_done : (s : StepOutcome) (new : Router) (a b : Outputs) (log : Log) → s ≡ StepDone log new → Adds a b log → IsStepRun s a b new (Ok tt)
 step_done s new a b log is adds = record { log = log; is = is; adds = adds }
-
-abbrev the_err : Stop → Result (Unit {0}) Stop
-the_err x = Err x
-
-err_is : (x y : Stop) → the_err x ≡ the_err y → x ≡ y
-err_is x y e = cc
 
 -- a fault, or want of memory
 pub step_cut : (s : StepOutcome) (new : Router) (a b : Outputs) (r : Result (Unit {0}) Stop) (e : Stop) → r ≡ Err e → ((field : Counter) → e ≡ stop.Full field → ⊥) → AddsPrefix a b (log_in s) → IsStepRun s a b new r

@@ -2,9 +2,9 @@
 use Rattle.std.proofs.Common.{◌≡◌, ℕ, ◌≤◌, List, [], ◌∷◌, ◌++◌, Option, Result, Ok, Err, refl, sym, ap, ◌∙◌, subst, append_assoc, append-nil, arith}
 use Rattle.std.specs.Io.KnownBytes.{Appends}
 use Rattle.std.specs.Result.{IsErr}
-use Rattle.mesh_io.specs.Cause.{Rose}
 use Rattle.mesh_io.specs.Puts.{AppendsPrefix}
 use Rattle.mesh_io.proofs.Writing.{Appends-none}
+use Rattle.mesh_io.proofs.Causes.{Rose-after}
 use Rattle.mesh_link.specs.Datagrams.{Datagram}
 use Rattle.mesh_router.specs.declared.stop.Stop.{Stop}
 use Rattle.mesh_router.specs.Logs.{Log, Byte, Sent, nothing, text_log, followed_by, text_of, sent_of}
@@ -117,12 +117,6 @@ prefix-unsent a b s t text others same p = record {
 }
 
 -- ---- causes
-
-pub rose-later : (a b c : ℕ) → Rose a b → b ≤ c → Rose a c
-rose-later a b c p q = omega arith
-
-pub rose-from : (a b c : ℕ) → a ≤ b → Rose b c → Rose a c
-rose-from a b c p q = omega arith
 
 -- the causes of what is done later
 pub causes-join : {T : Type 0} (a b c d e f : ℕ) (r : Result T Stop) → b ≡ a → e ≡ d → HasCauses b c e f r → HasCauses a c d f r

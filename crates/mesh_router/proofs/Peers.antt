@@ -1,6 +1,6 @@
 -- Ports, and sets of peers.
-use Rattle.std.proofs.Common.{◌≡◌, ℕ, ◌<◌, ◌≤◌, ◌+◌, zero, suc, Bool, true, false, List, [], ◌∷◌, ◌++◌, Option, Some, None, length, refl, sym, ap, ◌∙◌, subst, arith, ◌&&◌, ◌||◌, not, inl, inr, eq-eqb}
-use Rattle.std.proofs.lemmas.Bool.{eqb-true}
+use Rattle.std.proofs.Common.{◌≡◌, ℕ, ◌<◌, ◌≤◌, ◌+◌, zero, suc, Bool, true, false, List, [], ◌∷◌, ◌++◌, Option, Some, None, length, refl, sym, ap, ◌∙◌, subst, arith, not, inl, inr, eq-eqb}
+use Rattle.std.proofs.lemmas.Bool.{eqb-true, or_cases, and_parts}
 use Rattle.std.proofs.lemmas.Cmp.{nat_cmp_total}
 use Rattle.std.specs.Cmp.{unsigned_tied}
 use Rattle.std.specs.Ordering.{nat_cmp, eq_by_cmp}
@@ -105,18 +105,6 @@ taken_of_mesh mesh (Some t) is = took_of_mesh mesh t.now is
 
 -- ---- sets of peers
 
-or_cases : (a b : Bool) → (a || b) ≡ true → (a ≡ true) ⊎ (b ≡ true)
-or_cases true b e = inl refl
-or_cases false b e = inr e
-
-and_second : (a b : Bool) → (a && b) ≡ true → b ≡ true
-and_second true b e = e
-and_second false b e = cc
-
-and_first : (a b : Bool) → (a && b) ≡ true → a ≡ true
-and_first true b e = refl
-and_first false b e = e
-
 same_node : (q x : ℕ) → eq_by_cmp nat_cmp q x ≡ true → q ≡ x
 same_node q x e = eqb-true q x (sym (unsigned_tied q x) ∙ e)
 
@@ -128,7 +116,7 @@ inserted s x q is =
     ]
 
 pub removed : (s : NodeIds) (x q : ℕ) → sets.contains (sets.remove s x) q ≡ true → sets.contains s q ≡ true
-removed s x q is = and_second (not (eq_by_cmp nat_cmp q x)) (sets.contains s q) (sym (sets.contains-remove nat_cmp_total s x q) ∙ is)
+removed s x q is = (and_parts (not (eq_by_cmp nat_cmp q x)) (sets.contains s q) (sym (sets.contains-remove nat_cmp_total s x q) ∙ is)).1
 
 -- one more peer, and one less
 pub are_more : (p : PeersSeen) (s : NodeIds) (x : ℕ) → IsPeer p x → ArePeers p s → ArePeers p (sets.insert s x)
@@ -154,7 +142,7 @@ true_not b e f = cc
 
 not_removed : (s : NodeIds) (x : ℕ) → sets.contains (sets.remove s x) x ≡ true → ⊥
 not_removed s x is =
-    let not_same = and_first (not (eq_by_cmp nat_cmp x x)) (sets.contains s x) (sym (sets.contains-remove nat_cmp_total s x x) ∙ is) in
+    let not_same = (and_parts (not (eq_by_cmp nat_cmp x x)) (sets.contains s x) (sym (sets.contains-remove nat_cmp_total s x x) ∙ is)).0 in
     let same : eq_by_cmp nat_cmp x x ≡ true = unsigned_tied x x ∙ eq-eqb x x refl in
     true_not (eq_by_cmp nat_cmp x x) same not_same
 

@@ -22,6 +22,7 @@ use Rattle.mesh_router.specs.Short.{IsPollShort}
 use Rattle.mesh_router.specs.Joins.{adds-join, adds-none, found-join, found-none, left-join, next-front, next-rest}
 use Rattle.mesh_router.proofs.Logging.{log-assoc, log-nil, adds-text, prefix-none, prefix-join, prefix-more, prefix-text}
 use Rattle.mesh_router.proofs.Finds.{Received}
+use Rattle.mesh_router.proofs.Turning.{err_is}
 
 -- ---- a datagram of a port
 
@@ -229,16 +230,10 @@ polls_run_fault count old new arrived left a b (Err e) is p = p
 
 -- ---- below their line
 
-abbrev the_err : Stop → Result (Unit {0}) Stop
-the_err x = Err x
-
-poll_err : (x y : Stop) → the_err x ≡ the_err y → x ≡ y
-poll_err x y e = cc
-
 pub poll_line_cut : (count : ℕ) (words : List ℕ) (old new : Router) (arrived : Option (List Datagram)) (a b : Outputs) (r : Result (Unit {0}) Stop) (e : Stop) → r ≡ Err e → e ≡ stop.WriteFault → AddsPrefix a b (text_log (line words)) → IsPollLine count words old arrived arrived a b new r
 poll_line_cut count words old new arrived a b (Ok u) e was is p = absurd cc
 poll_line_cut count words old new arrived a b (Err x) e was is p = (
-  subst IsNotFull (sym (poll_err x e was ∙ is)) tt,
+  subst IsNotFull (sym (err_is x e was ∙ is)) tt,
   record { found = []; taken = found-none arrived; told = λ finds are. prefix-more a b (text_log (line words)) (polls_of count old finds).log p },
 )
 

@@ -20,10 +20,11 @@ use Rattle.aodv_model.proofs.MeshNames.{turn_names_the_mesh}
 use Rattle.aodv_meaning.specs.Meaning.{meaning, stranger}
 use Rattle.aodv_meaning.specs.Effects.{item_in, cast_of, effect_of}
 use Rattle.aodv_meaning.specs.Sent.{IsSent, IsPacket}
-use Rattle.aodv_meaning.proofs.Means.{sent_means, spelled_in}
+use Rattle.aodv_meaning.proofs.Means.{sent_means}
 use Rattle.aodv_node.specs.Seen.{NodeSeen, IsItemAt, IsSoundNode}
 use Rattle.aodv_node.specs.Turned.{IsReadableItem, IsTaken, IsDropped, IsFullAt, IsShort, taken_of}
 use Rattle.aodv_node.specs.declared.answers.TurnDone as done
+use Rattle.aodv_node.proofs.Keeps.{item_is_in_mesh}
 use Rattle.mesh_meaning.specs.Packets.{packet_of}
 use Rattle.mesh_meaning.specs.Answers.{cast_in, effect_in, took_in, IsCastWritten, IsPacketInMesh}
 use Rattle.mesh_text.specs.Effects.{took_text, datum_fate, broken_text, cast_text}
@@ -150,10 +151,6 @@ took_legible : (mesh : Nodes) (me : ℕ) (core : Core) (front : items.Item) → 
 took_legible mesh me core (item.New dest body) at ok = datum_legible mesh (dest == core.ip) body dest at.0 at.1
 took_legible mesh me core (item.Heard from bytes) at ok = (at.0, refl, record { allowed = ok.allowed; known = ok.known })
 
-item_is_in_mesh : (mesh : Nodes) (me : ℕ) (i : items.Item) → IsReadableItem mesh i → IsItemAt (length mesh) me i → IsItemInMesh (length mesh) me (item_in mesh i)
-item_is_in_mesh mesh me (item.New dest body) ok at = at
-item_is_in_mesh mesh me (item.Heard from bytes) ok at = (at.0, at.1, spelled_in mesh bytes ok.allowed ok.known)
-
 -- ---- the next turn
 
 on-empty : (r : Router) → turn_on r [] ≡ turns.Idle
@@ -244,14 +241,11 @@ turn_full_at p node near heard sent dropped field h =
 
 -- ---- what is told of a turn
 
+pub err_is : {T : Type 0} (x y : Stop) → ◌≡◌ {A = Result T Stop} (Err x) (Err y) → x ≡ y
+err_is x y e = cc
+
 pub told_done : (t : TurnOutcome) (old new : Router) (a b : Outputs) (log : Log) → t ≡ turns.Done log new → Adds a b log → IsTurnRun t old a b new (Ok true)
 told_done t old new a b log is adds = record { log = log; is = is; adds = adds }
-
-abbrev the_err : Stop → Result Bool Stop
-the_err x = Err x
-
-err_is : (x y : Stop) → the_err x ≡ the_err y → x ≡ y
-err_is x y e = cc
 
 pub told_fault : (t : TurnOutcome) (old new : Router) (a b : Outputs) (r : Result Bool Stop) (e : Stop) → r ≡ Err e → IsFault e → AddsPrefix a b (log_by t) → IsTurnRun t old a b new r
 told_fault t old new a b (Ok more) e was fault p = absurd cc

@@ -127,7 +127,7 @@ on_then say m n k e text ran a b c r g q =
     let Q : List ℕ → Type 0 = λ l. Appends a b (output_if say l) in
     subst P (sym same) (before_to say m n k text (ran n) a b c r (ap (λ p. p.mesh) (sym same)) (ap (λ p. p.lines) (sym same)) (subst Q (sym words) g.grown) q)
 
-then_goes : (say : Bool) (m n k : RunState) (e : Event) (o : Outcome) (others : RunState → EventsOutcome) (a b c : Option (List ℕ)) (r : Result ℕ Stop)
+pub then_goes : (say : Bool) (m n k : RunState) (e : Event) (o : Outcome) (others : RunState → EventsOutcome) (a b c : Option (List ℕ)) (r : Result ℕ Stop)
     → IsLineDone say (outcome_by m e o) n a b → IsEventsRun say n (others n) k b c r → IsEventsRun say m (done_then m e o others) k a c r
 then_goes say m n k e Idle others a b c r g q = on_then say m n k e (outcome_lines m.mesh e Idle) others a b c r g q
 then_goes say m n k e (worlds.Full x field) others a b c r g q = absurd (let h : Full [] m e field ≡ On g.text n = g.is in let P : ⊥ = cc in P)
@@ -165,7 +165,7 @@ full_stops say m n e full a b (stop.Full event node field) g = record {
 full_stops say m n e full a b stop.WriteFault g = g
 full_stops say m n e full a b stop.NoMemory g = g
 
-then_stops : (say : Bool) (m n : RunState) (e : Event) (o : Outcome) (others : RunState → EventsOutcome) (a b : Option (List ℕ)) (t : Stop)
+pub then_stops : (say : Bool) (m n : RunState) (e : Event) (o : Outcome) (others : RunState → EventsOutcome) (a b : Option (List ℕ)) (t : Stop)
     → IsLineStopped say m (outcome_by m e o) n a b t → IsEventsRun say m (done_then m e o others) n a b (Err t)
 then_stops say m n e Idle others a b t g = on_stops say m n (next_state m e) (outcome_lines m.mesh e Idle) (others (next_state m e)) a b t g
 then_stops say m n e (worlds.Full x full) others a b t g = full_stops say m n e full a b t g
@@ -216,7 +216,7 @@ came-does : (m s : RunState) (e : Event) → s ≡ with_world m → outcome_of_l
 unfolding outcome_of_line
 came-does m s e same = ap (λ k. outcome_by_events (outcome_of_events k (e ∷ []))) (sym same)
 
-text_by : (ran : EventsOutcome) → text_in (outcome_by_events ran) ≡ text_of ran
+pub text_by : (ran : EventsOutcome) → text_in (outcome_by_events ran) ≡ text_of ran
 text_by (Ended text n) = refl
 text_by (EventsFull text n e field) = refl
 

@@ -31,7 +31,7 @@ use Rattle.mesh_run.proofs.OwnNode.{step_own}
 
 -- ---- an event by itself
 
-by_done : (m : RunState) (e : Event) (mesh : Nodes) (x : ℕ) (w : World) (d : Done) (packet : List ℕ)
+pub by_done : (m : RunState) (e : Event) (mesh : Nodes) (x : ℕ) (w : World) (d : Done) (packet : List ℕ)
     → outcome_by m e (outcome_in mesh x w d packet) ≡ On (outcome_lines m.mesh e (outcome_in mesh x w d packet)) (next_state m e)
 by_done m e mesh x w done.Idle packet = refl
 by_done m e mesh x w done.Changed packet = refl

@@ -1,7 +1,8 @@
 -- Counts of faults, and what they are the cause of.
-use Rattle.std.proofs.Common.{Some, ◌≡◌, ◌≢◌, ◌≤◌, ◌+◌, ◌-◌, ◌^◌, min, ℕ, refl, ap, subst, arith}
+use Rattle.std.proofs.Common.{Some, ◌≡◌, ◌≢◌, ◌≤◌, ◌+◌, ◌-◌, ◌^◌, min, ℕ, refl, subst, arith}
 use Rattle.mesh_io.specs.Cause.{Rose}
-use Rattle.std.specs.Prelude.{Result, Err, IsErrOf}
+use Rattle.std.specs.Prelude.{Err, IsErrOf}
+use Rattle.mesh_shell.proofs.Faults.{err_as}
 use Rattle.mesh_run.specs.Causes.{HasCauseIf, HasSourceCause}
 use Rattle.mesh_run.specs.declared.status.Status.{Status}
 use Rattle.mesh_run.specs.declared.status.Status.TheVariants as status
@@ -33,10 +34,6 @@ a_cause a b le rose x = record { later = le; failed = λ y. rose; none = λ not.
 -- an answer that there is
 pub unsome : {T : Type 0} {x y : T} → Some x ≡ Some y → x ≡ y
 unsome h = cc
-
--- an error of another call
-err_as : {A B E : Type 0} (x y : E) → IsErrOf {T = A} (Err x) y → IsErrOf {T = B} (Err x) y
-err_as {A} {B} {E} x y h = let same : x ≡ y = cc in ap (λ (e : E). let r : Result B E = Err e in r) same
 
 pub cause_of_err : {A B E : Type 0} (x y : E) (a b : ℕ) → HasCauseIf (IsErrOf {T = A} (Err x) y) a b → HasCauseIf (IsErrOf {T = B} (Err x) y) a b
 cause_of_err {A} {B} {E} x y a b h = cause_as a b (λ e. err_as {A = A} {B = B} x y e) (λ e. err_as {A = B} {B = A} x y e) h

@@ -2,14 +2,14 @@
 use Rattle.std.proofs.Common.{◌≡◌, inl, inr, if◌then◌else◌, ℕ, suc, ◌+◌, ◌*◌, ◌≤◌, Bool, true, false, List, [], ◌∷◌, Option, Some, None, Result, Ok, Err, OnOk, length, is_some, refl, ap, subst, arith}
 use Rattle.mesh_base.specs.declared.limits.TheConstants.{MOST_NODES, MOST_EVENTS}
 use Rattle.mesh_model.specs.Worlds as worlds
-use Rattle.mesh_model.specs.Worlds.{World, start, first_numbers, Event, Outcome, Idle, Next, WorldEffect, Taken, CopyLost, CopyDoubled, Give, Turn}
-use Rattle.aodv_model.specs.Cores.{Message, Pkt, Rreq, Rrep, Rerr}
+use Rattle.mesh_model.specs.Worlds.{World, start, first_numbers, Event, Outcome, Idle, Next, WorldEffect, Taken, CopyLost, Give, Turn}
 use Rattle.aodv_model.specs.Handlers.{Took, Own, Stored, FromNeighbour}
 use Rattle.mesh_base.specs.declared.events.Variant.{Variant}
 use Rattle.mesh_base.specs.Meshes.{Nodes, with_node}
 use Rattle.std.specs.Option.{unwrap_or}
 use Rattle.mesh_model.proofs.Sizes.{same_size}
-use Rattle.mesh_model.specs.Accounts.{any, in_taken, in_dropped, in_message, given_data, delivered_data, delivered_in, dropped_data, dropped_in, doubled_in, doubled_at}
+use Rattle.mesh_model.proofs.Doublings.{one_at_most}
+use Rattle.mesh_model.specs.Accounts.{any, in_taken, in_dropped, given_data, delivered_data, delivered_in, dropped_data, dropped_in, doubled_at}
 use Rattle.mesh_shell.specs.Pieces.{Whole}
 use Rattle.mesh_grammar.specs.Written.{line}
 use Rattle.mesh_text.specs.Schedule.{RunState, AcceptedLine, Nothing, NewNode, Does, Chooses, ShowsNode, ShowsRoute, ShowsFlight, line_of, world_of, with_world, next_state, with_line_read, outcome_at, idle_by}
@@ -20,6 +20,7 @@ use Rattle.mesh_text.specs.Text.{LineOutcome, On, Refused, Full, outcome_by_even
 use Rattle.mesh_text.specs.Runs.{events_read, events_of_piece}
 use Rattle.mesh_text.proofs.InRange.{in_range}
 use Rattle.mesh_text.proofs.LineLaws.{chosen_few, line_has_few_events}
+use Rattle.mesh_text.proofs.RunStates.{doubled_at_most}
 use Rattle.mesh_io.specs.Cutting.{IsCounted}
 use Rattle.mesh_run.specs.declared.stop.Stop.{Stop}
 use Rattle.mesh_run.specs.Runs.{IsLineDone, IsLineRun}
@@ -39,16 +40,10 @@ given_few (Give x d body) (worlds.Full y field) = omega arith
 given_few (Give x d body) (Next w world_effect) = omega arith
 given_few others o = omega arith
 
-message_few : (m : Message) → in_message any m ≤ 1
-message_few (Pkt b d o) = omega arith
-message_few (Rreq m) = omega arith
-message_few (Rrep m) = omega arith
-message_few (Rerr dests) = omega arith
-
 taken_few : (x : ℕ) (took : Took) → in_taken any x took ≤ 1
 taken_few x (Own b) = omega arith
 taken_few x (Stored d) = omega arith
-taken_few x (FromNeighbour from m) = message_few m
+taken_few x (FromNeighbour from m) = one_at_most m
 
 delivered_in_few : (x : ℕ) (h : WorldEffect) → delivered_in any x h ≤ 1
 delivered_in_few x (Taken took effect copies) = by_test effect.deliver
@@ -67,7 +62,7 @@ delivered_few others o = omega arith
 dropped_few : (took : Took) → in_dropped any took ≤ 1
 dropped_few (Own b) = omega arith
 dropped_few (Stored d) = omega arith
-dropped_few (FromNeighbour from m) = message_few m
+dropped_few (FromNeighbour from m) = one_at_most m
 
 lost_in_few : (h : WorldEffect) → dropped_in any h ≤ 1
 lost_in_few (Taken took effect copies) = by_test effect.lost
@@ -75,7 +70,7 @@ lost_in_few (Taken took effect copies) = by_test effect.lost
     by_test : (b : Bool) → (if b then in_dropped any took else 0) ≤ 1
     by_test true = dropped_few took
     by_test false = omega arith
-lost_in_few (CopyLost c) = message_few c.message
+lost_in_few (CopyLost c) = one_at_most c.message
 lost_in_few others = omega arith
 
 lost_few : (e : Event) (o : Outcome) → dropped_data any e o ≤ 1
@@ -83,15 +78,10 @@ lost_few e Idle = omega arith
 lost_few e (worlds.Full x field) = omega arith
 lost_few e (Next w world_effect) = lost_in_few world_effect
 
-doubled_few : (h : WorldEffect) → doubled_in h ≤ 1
-doubled_few (CopyDoubled id to true) = omega arith
-doubled_few (CopyDoubled id to false) = omega arith
-doubled_few others = omega arith
-
 copied_few : (o : Outcome) → doubled_at o ≤ 1
 copied_few Idle = omega arith
 copied_few (worlds.Full x field) = omega arith
-copied_few (Next w world_effect) = doubled_few world_effect
+copied_few (Next w world_effect) = doubled_at_most world_effect
 
 -- ---- an event, and others
 

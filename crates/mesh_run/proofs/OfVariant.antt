@@ -3,13 +3,13 @@ use Rattle.std.proofs.Common.{◌≡◌, ℕ, ◌+◌, List, [], ◌∷◌, Some
 use Rattle.std.specs.Prelude.{slice_get, ⊤}
 use Rattle.std.specs.List.{AllByRecursion}
 use Rattle.mesh_base.specs.declared.events.Variant.{Variant}
+use Rattle.mesh_base.proofs.Lemmas.Lists.{each_at}
 use Rattle.aodv_model.specs.Cores.{Message}
 use Rattle.aodv_model.specs.Handlers.{Cast}
 use Rattle.mesh_model.proofs.Everywhere.{Everywhere, step_everywhere}
 use Rattle.mesh_model.proofs.Lists.{each_of}
 use Rattle.mesh_model.proofs.Stems.{ask_seen, send_seen, turn_seen}
 use Rattle.mesh_model.specs.Worlds.{Copy, Event, Node, World, after, openings, range, start, step}
-use Rattle.mesh_world.proofs.Frames.{each_get}
 use Rattle.mesh_run.specs.RunStates.{AreOfVariant}
 
 -- ---- an event
@@ -28,7 +28,7 @@ all_any (c ∷ copies) = (tt, all_any copies)
 pub step_of : (v : Variant) (w : World) (e : Event) → AreOfVariant v w → AreOfVariant v (after w (step w e))
 step_of v w e all =
     let IsOf : ℕ → Node → Type 0 = λ x n. (n.core).variant ≡ v in
-    let of_node : (x : ℕ) (n : Node) → slice_get w.nodes x ≡ Some n → (n.core).variant ≡ v = λ x n is. each_get (λ (n : Node). (n.core).variant ≡ v) w.nodes x n all is in
+    let of_node : (x : ℕ) (n : Node) → slice_get w.nodes x ≡ Some n → (n.core).variant ≡ v = λ x n is. each_at (λ (n : Node). (n.core).variant ≡ v) w.nodes x n all is in
     let before : Everywhere IsOf IsAny w = record { nodes = of_node; flying = all_any w.flying } in
     let now : Everywhere IsOf IsAny (after w (step w e)) = step_everywhere {N = IsOf} {N' = IsOf} {M = IsAny} {C = IsAnyCast} w e before (record {
       carries = record { one = λ y m is. is; many = λ s m is. is; all = λ m is. is };

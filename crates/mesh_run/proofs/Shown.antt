@@ -1,14 +1,10 @@
 -- Texts that are left out where they aren't said.
-use Rattle.std.proofs.Common.{◌≡◌, ℕ, Bool, true, false, List, [], ◌++◌, Option, Some, None, refl, sym, ap, subst}
+use Rattle.std.proofs.Common.{◌≡◌, ℕ, Bool, true, false, List, [], ◌++◌, Option, refl, sym, ap, subst}
 use Rattle.std.specs.Io.KnownBytes.{Appends, Keeps}
 use Rattle.mesh_io.specs.Puts.{AppendsPrefix}
 use Rattle.mesh_io.proofs.Writing.{Appends-join, Appends-none, Appends-kept, AppendsPrefix-join, AppendsPrefix-more}
 use Rattle.mesh_grammar.specs.Written.{line}
 use Rattle.mesh_run.specs.Runs.{output_if}
-
-pub Keeps-same : (a : Option (List ℕ)) → Keeps a a
-Keeps-same None = tt
-Keeps-same (Some x) = refl
 
 -- nothing is written of no text
 pub shown_none : (say : Bool) (a : Option (List ℕ)) → Appends a a (output_if say [])

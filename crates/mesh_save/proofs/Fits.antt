@@ -14,12 +14,15 @@ use Rattle.mesh_base.specs.declared.events.Item.{Item}
 use Rattle.mesh_base.specs.declared.events.Item.TheVariants.{New, Heard}
 use Rattle.mesh_base.specs.Members.{NodeIds, members_below, member_list}
 use Rattle.mesh_base.proofs.Ranks.{Rises, members_few, members-all, members-size, members-sorted}
+use Rattle.mesh_base.proofs.Lemmas.Maps.{each_entry}
+use Rattle.mesh_base.proofs.Lemmas.Lists.{each_mapped}
 use Rattle.aodv_model.specs.declared.entry.Entry.{Entry}
 use Rattle.aodv_model.specs.Quality.{is_kno, is_val}
 use Rattle.aodv_model.specs.Tables.{Table}
 use Rattle.aodv_model.specs.Pairs.{Pairs, pair_cmp, pairs_in}
 use Rattle.aodv_model.specs.Cores.{Body, Waiting, Store, Core}
 use Rattle.aodv_model.specs.Soundness.{IsDatum, HasSoundNumber, AreBelow, IsEntryInMesh, IsSoundTable, IsSoundCore, IsWaitingInMesh, IsStoreInMesh}
+use Rattle.aodv_model.proofs.PairKeys.{each_pair}
 use Rattle.aodv_node.specs.Seen.{NodeSeen, IsItemAt, IsSoundNode}
 use Rattle.mesh_checkpoint.specs.declared.limits.TheConstants.{LONGEST_BODY, LONGEST_HEARD}
 use Rattle.mesh_checkpoint.specs.Formats.{truth}
@@ -29,7 +32,7 @@ use Rattle.mesh_checkpoint.specs.Seen.{listed_node}
 use Rattle.mesh_save.specs.Requests.{AreRequestsOf}
 use Rattle.mesh_save.specs.Narrow.{AreEntriesNarrow}
 use Rattle.mesh_model.proofs.Lists.{each_map}
-use Rattle.mesh_save.proofs.FitsParts.{IsFit, Rise, all_both, all_mapped, all_images, is_in, text_fits, counted_fits, rising_fits, few, rise_mapped, numbers_rise, each_entry, each_pair, pairs_rise, lesser_pair, no_more, each_short}
+use Rattle.mesh_save.proofs.FitsParts.{IsFit, Rise, all_both, all_images, is_in, text_fits, counted_fits, rising_fits, few, rise_mapped, numbers_rise, pairs_rise, lesser_pair, no_more, each_short}
 
 -- ---- what a node of the code has, beside what every sound node has
 
@@ -78,7 +81,7 @@ routes_fit size ip rt small sound narrow =
     (λ d e there. route_fits size ip rt d e small (sound.numbers d e there) (sound.in_mesh d e there) (narrow d e there)) in
     let up = numbers_rise rt size below in
     let many = is_in 0 (2 ^ 16) (length (map route_of es)) (omega arith) (omega (arith, length-map es route_of, few (λ e. e.0) size es up below, small)) in
-    rising_fits (λ r. r.dest) any16 (route size) (map route_of es) many (all_mapped route_of (IsFit (route size)) es each) (rise_mapped route_of (λ r. r.dest) 0 es up)
+    rising_fits (λ r. r.dest) any16 (route size) (map route_of es) many (each_mapped route_of (IsFit (route size)) es each) (rise_mapped route_of (λ r. r.dest) 0 es up)
 
 -- ---- the requests that were seen
 
@@ -131,7 +134,7 @@ store_fits size s small is short =
     (all_both (λ e. IsWaitingInMesh size e.0 e.1) (λ e. length ((waits size).put (waits_of e)) ≤ LONGEST_BODY) es there parts) in
     let up = numbers_rise s size below in
     let many = is_in 0 (2 ^ 16) (length (map waits_of es)) (omega arith) (omega (arith, length-map es waits_of, few (λ e. e.0) size es up below, small)) in
-    rising_fits (λ w. w.dest) any16 (waits size) (map waits_of es) many (all_mapped waits_of (IsFit (waits size)) es each) (rise_mapped waits_of (λ w. w.dest) 0 es up)
+    rising_fits (λ w. w.dest) any16 (waits size) (map waits_of es) many (each_mapped waits_of (IsFit (waits size)) es each) (rise_mapped waits_of (λ w. w.dest) 0 es up)
 
 -- ---- the inbox
 

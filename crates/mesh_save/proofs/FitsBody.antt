@@ -19,9 +19,12 @@ use Rattle.mesh_base.specs.declared.events.Item as items
 use Rattle.mesh_base.specs.declared.events.Item.TheVariants as item
 use Rattle.mesh_base.specs.declared.events.Flying.{Flying}
 use Rattle.mesh_base.specs.Meshes.{Nodes, addr_at, IsMesh}
+use Rattle.mesh_base.proofs.Lemmas.Maps.{each_entry}
+use Rattle.mesh_base.proofs.Lemmas.Lists.{each_mapped}
 use Rattle.aodv_model.specs.Pairs.{Pairs, pair_cmp, pairs_in}
 use Rattle.aodv_model.specs.Cores.{Message, Pkt, Rreq, Rrep, Rerr, Item, New, Heard}
 use Rattle.aodv_model.specs.Soundness.{IsMessageInMesh, IsItemInMesh}
+use Rattle.aodv_model.proofs.PairKeys.{each_pair}
 use Rattle.aodv_wire.specs.RouteError as rerr
 use Rattle.aodv_wire.specs.Encodes.{encoding}
 use Rattle.aodv_meaning.specs.Meaning.{meaning}
@@ -40,10 +43,10 @@ use Rattle.mesh_checkpoint.specs.Checkpoint.{World, Body, has_nodes, link_key}
 use Rattle.mesh_checkpoint.specs.Points as points
 use Rattle.mesh_checkpoint.specs.Points.{head_of, links_of, copy_of, node_of, world_after, body_of}
 use Rattle.mesh_checkpoint.specs.Heads.{AreSums}
-use Rattle.mesh_model.proofs.Lists.{each_map}
+use Rattle.mesh_model.proofs.Lists.{each_map, each_of}
 use Rattle.mesh_save.specs.Links.{link_of}
 use Rattle.mesh_save.specs.Narrow.{IsNarrow}
-use Rattle.mesh_save.proofs.FitsParts.{IsFit, Rise, all_both, all_mapped, all_images, is_in, each_fits, text_fits, rising_fits, few, rise_mapped, numbers_rise, each_entry, each_pair, pairs_rise, lesser_pair, no_more, each_short}
+use Rattle.mesh_save.proofs.FitsParts.{IsFit, Rise, all_both, all_images, is_in, each_fits, text_fits, rising_fits, few, rise_mapped, numbers_rise, pairs_rise, lesser_pair, no_more, each_short}
 use Rattle.mesh_save.proofs.Fits.{IsItemShort, index_fits, truth_fits, item_fits, core_fits}
 
 -- ---- the head
@@ -122,7 +125,7 @@ links_fit size ever standing small are =
     let each = each_map (IsPair size) (λ p. IsFit (table.link size) (link_of standing p)) (λ p h.
     and_from _ _ (index_fits size p.0 (omega (arith, h.0, h.1))) (and_from _ _ (is_in (p.0 + 1) size p.1 (omega (arith, h.0)) h.1) (truth_fits (sets.contains standing p)))) ps all in
     let many = is_in 0 (2 ^ 16) (length (map (link_of standing) ps)) (omega arith) (omega (arith, length-map ps (link_of standing), few_pairs size ever small are)) in
-    rising_fits link_key table.any16 (table.link size) (map (link_of standing) ps) many (all_mapped (link_of standing) (IsFit (table.link size)) ps each) (rise_mapped (link_of standing) link_key 0 ps up)
+    rising_fits link_key table.any16 (table.link size) (map (link_of standing) ps) many (each_mapped (link_of standing) (IsFit (table.link size)) ps each) (rise_mapped (link_of standing) link_key 0 ps up)
 
 -- ---- the copies
 
@@ -216,13 +219,9 @@ pub meant_fits : (mesh : Nodes) (x : ℕ) (n : model.Node) → length mesh ≤ M
     → IsFit (table.node (length mesh)) (node_of mesh n)
 meant_fits mesh x n small is narrow short =
     let size = length mesh in
-    let each = all_mapped (points.item_of mesh) (IsFit (table.item size)) n.queue
+    let each = each_mapped (points.item_of mesh) (IsFit (table.item size)) n.queue
     (each_map (IsItemInMesh size x) (λ i. IsFit (table.item size) (points.item_of mesh i)) (λ i h. queued_fits mesh x i small h) n.queue is.queue) in
     core_fits size n.core (map (points.item_of mesh) n.queue) small is.core is.store narrow.entries narrow.requests narrow.number each short
-
-each_at : {X : Type 0} (P : X → Type 0) (xs : List X) → ((i : ℕ) (x : X) → slice_get xs i ≡ Some x → P x) → AllByRecursion P xs
-each_at P [] each = tt
-each_at P (x ∷ xs) each = (each 0 x refl, each_at P xs (λ i y there. each (suc i) y there))
 
 -- ---- the world
 
@@ -260,10 +259,10 @@ meant_nodes_fit mesh steps w small is short =
     let size = length mesh in
     let fit : model.Node → Type 0 = λ n. length ((table.node size).put (node_of mesh n)) ≤ LONGEST_BODY → IsFit (table.node size) (node_of mesh n) in
     let each : AllByRecursion fit w.nodes =
-    each_at fit w.nodes (λ x n there short. meant_fits mesh x n small (subst (λ (k : ℕ). IsNodeInMesh k x n) is.count ((is.in_mesh).nodes x n there)) (is.narrow x n there) short) in
+    each_of fit w.nodes (λ x n there short. meant_fits mesh x n small (subst (λ (k : ℕ). IsNodeInMesh k x n) is.count ((is.in_mesh).nodes x n there)) (is.narrow x n there) short) in
     let parts : AllByRecursion (λ n. length ((table.node size).put (node_of mesh n)) ≤ LONGEST_BODY) w.nodes =
     all_images (node_of mesh) (λ n. length ((table.node size).put n) ≤ LONGEST_BODY) w.nodes (each_short (table.node size).put LONGEST_BODY (map (node_of mesh) w.nodes) short) in
-    all_mapped (node_of mesh) (IsFit (table.node size)) w.nodes
+    each_mapped (node_of mesh) (IsFit (table.node size)) w.nodes
     (each_map (λ n. fit n × (length ((table.node size).put (node_of mesh n)) ≤ LONGEST_BODY)) (λ n. IsFit (table.node size) (node_of mesh n)) (λ n h. h.0 h.1) w.nodes
     (all_both fit (λ n. length ((table.node size).put (node_of mesh n)) ≤ LONGEST_BODY) w.nodes each parts))
 
@@ -276,7 +275,7 @@ world_fits mesh steps w small is short =
     let flying : AllByRecursion (IsCopyInMesh size) w.flying = subst (λ (k : ℕ). AllByRecursion (IsCopyInMesh k) w.flying) is.count (is.in_mesh).flying in
     let ever : AreLinks size w.ever = subst (λ (k : ℕ). AreLinks k w.ever) is.count (is.in_mesh).ever in
     let ids = numbered_mapped (copy_of mesh) (λ c. c.id) 1 w.next_copy w.flying (is.in_mesh).numbered in
-    let copies = all_mapped (copy_of mesh) (IsCopyShort size) w.flying
+    let copies = each_mapped (copy_of mesh) (IsCopyShort size) w.flying
     (each_map (IsCopyInMesh size) (λ c. IsCopyShort size (copy_of mesh c)) (λ c h. copy_short mesh c small h) w.flying flying) in
     parts_fit size listed is.early (length-map w.nodes (node_of mesh) ∙ is.count)
     (meant_nodes_fit mesh steps w small is (omega (arith, short, whole))) (links_fit size w.ever w.links small ever)

@@ -1,21 +1,20 @@
 -- Why values fit the formats that a table is built of, and why the entries of a map rise.
-use Rattle.std.proofs.Common.{◌≡◌, ℕ, ◌+◌, ◌<◌, ◌≤◌, Bool, true, false, cond, ◌&&◌, T, eq-eqb, List, [], ◌∷◌, length, map, Some, None, refl, sym, ap, ◌∙◌, arith, length-append, ◌⊎◌, inl, inr}
-use Rattle.std.specs.Prelude.{nat_le, nat_lt, is_some}
+use Rattle.std.proofs.Common.{◌≡◌, ℕ, ◌+◌, ◌<◌, ◌≤◌, true, T, eq-eqb, List, [], ◌∷◌, length, map, refl, sym, arith, length-append, ◌⊎◌, inl, inr}
+use Rattle.std.specs.Prelude.{nat_le, nat_lt}
 use Rattle.std.specs.declared.cmp.Ordering.{Ordering}
 use Rattle.std.specs.declared.cmp.Ordering.TheVariants.{Less, Equal, Greater}
-use Rattle.std.specs.Ordering.{nat_cmp, ordering_then, is_lt, is_eq, eq_by_cmp}
-use Rattle.std.specs.Cmp.{IsTotalOrder, tied_itself, ranked}
+use Rattle.std.specs.Ordering.{nat_cmp, ordering_then, is_lt}
+use Rattle.std.specs.Cmp.{ranked}
 use Rattle.std.specs.Int.{Width}
 use Rattle.std.specs.List.{AllByRecursion, flat_map}
 use Rattle.std.specs.FinMap as maps
-use Rattle.std.specs.FinMap.{FinMap, find, is_sorted}
-use Rattle.std.specs.FinMap.Entries.{below_all, find_tied}
+use Rattle.std.specs.FinMap.{FinMap, is_sorted}
+use Rattle.std.specs.FinMap.Entries.{below_all}
 use Rattle.std.specs.FinSet as sets
 use Rattle.std.proofs.lemmas.Bool.{and_from, le-leb, lt-ltb}
-use Rattle.std.proofs.lemmas.Option.{none-some}
+use Rattle.mesh_base.proofs.Lemmas.Maps.{is_less}
+use Rattle.mesh_base.proofs.Lemmas.Bools.{left_of_both, right_of_both}
 use Rattle.aodv_model.specs.Pairs.{Pairs, pair_cmp, as_keys, pairs_in}
-use Rattle.aodv_model.proofs.PairLaws.{pair_cmp_total}
-use Rattle.aodv_model.proofs.PairKeys.{get-keys_of}
 use Rattle.mesh_model.proofs.Lists.{each_map}
 use Rattle.mesh_checkpoint.specs.Formats.{Format, is_from, all_fit, rise, counted_list, counted_rising, text}
 
@@ -24,11 +23,6 @@ use Rattle.mesh_checkpoint.specs.Formats.{Format, is_from, all_fit, rise, counte
 pub all_both : {X : Type 0} (P Q : X → Type 0) (xs : List X) → AllByRecursion P xs → AllByRecursion Q xs → AllByRecursion (λ x. P x × Q x) xs
 all_both P Q [] p q = tt
 all_both P Q (x ∷ xs) p q = ((p.0, q.0), all_both P Q xs p.1 q.1)
-
--- what holds of the images
-pub all_mapped : {X Y : Type 0} (f : X → Y) (P : Y → Type 0) (xs : List X) → AllByRecursion (λ x. P (f x)) xs → AllByRecursion P (map f xs)
-all_mapped f P [] all = tt
-all_mapped f P (x ∷ xs) all = (all.0, all_mapped f P xs all.1)
 
 pub all_images : {X Y : Type 0} (f : X → Y) (P : Y → Type 0) (xs : List X) → AllByRecursion P (map f xs) → AllByRecursion (λ x. P (f x)) xs
 all_images f P [] all = tt
@@ -83,30 +77,17 @@ rise_mapped f key low (x ∷ xs) up = (up.0, rise_mapped f key (key (f x) + 1) x
 
 -- ---- the entries of a map rise
 
-is_less : (r : Ordering) → T (is_lt r) → r ≡ Less
-is_less Less t = refl
-is_less Equal t = absurd t
-is_less Greater t = absurd t
-
-left : (a b : Bool) → T (a && b) → T a
-left true b t = tt
-left false b t = absurd t
-
-right : (a b : Bool) → T (a && b) → T b
-right true b t = t
-right false b t = absurd t
-
 module _ {K X : Type 0} (R : K → K → Ordering) (key : K → ℕ) (P : K → Type 0) (up : (x y : K) → P x → P y → R x y ≡ Less → key x < key y) where
   keys_after : (k : K) → P k → (es : List (K × X)) → AllByRecursion (λ e. P e.0) es → T (below_all R k es) → AllByRecursion (λ e. key k + 1 ≤ key e.0) es
   keys_after k here [] all below = tt
   keys_after k here (e ∷ es) all below =
-      let less = up k e.0 here all.0 (is_less (R k e.0) (left (is_lt (R k e.0)) (below_all R k es) below)) in
-      (omega (arith, less), keys_after k here es all.1 (right (is_lt (R k e.0)) (below_all R k es) below))
+      let less = up k e.0 here all.0 (is_less (R k e.0) (left_of_both (is_lt (R k e.0)) (below_all R k es) below)) in
+      (omega (arith, less), keys_after k here es all.1 (right_of_both (is_lt (R k e.0)) (below_all R k es) below))
 
   sorted_rise : (low : ℕ) (es : List (K × X)) → AllByRecursion (λ e. P e.0) es → T (is_sorted R es) → AllByRecursion (λ e. low ≤ key e.0) es → Rise (λ e. key e.0) low es
   sorted_rise low [] all sorted from = tt
   sorted_rise low (e ∷ es) all sorted from =
-      (from.0, sorted_rise (key e.0 + 1) es all.1 (right (below_all R e.0 es) (is_sorted R es) sorted) (keys_after e.0 all.0 es all.1 (left (below_all R e.0 es) (is_sorted R es) sorted)))
+      (from.0, sorted_rise (key e.0 + 1) es all.1 (right_of_both (below_all R e.0 es) (is_sorted R es) sorted) (keys_after e.0 all.0 es all.1 (left_of_both (below_all R e.0 es) (is_sorted R es) sorted)))
 
   pub entries_rise : (m : FinMap R X) → AllByRecursion (λ e. P e.0) (maps.entries m) → Rise (λ e. key e.0) 0 (maps.entries m)
   entries_rise m all =
@@ -115,42 +96,7 @@ module _ {K X : Type 0} (R : K → K → Ordering) (key : K → ℕ) (P : K → 
 pub numbers_rise : {X : Type 0} (m : FinMap nat_cmp X) (end : ℕ) → AllByRecursion (λ e. e.0 < end) (maps.entries m) → Rise (λ e. e.0) 0 (maps.entries m)
 numbers_rise m end all = entries_rise nat_cmp (λ k. k) (λ k. k < end) (λ x y p q less. ranked x y Less (sym less)) m all
 
--- ---- what holds of each entry
-
-none_below : {K X : Type 0} (R : K → K → Ordering) (k : K) (es : List (K × X)) → T (below_all R k es) → find R k es ≡ None
-none_below R k [] below = refl
-none_below R k (e ∷ es) below =
-    let less : R k e.0 ≡ Less = is_less (R k e.0) (left (is_lt (R k e.0)) (below_all R k es) below) in
-    rw less (none_below R k es (right (is_lt (R k e.0)) (below_all R k es) below))
-
-module _ {K X : Type 0} (R : K → K → Ordering) (o : IsTotalOrder R) (P : K → X → Type 0) where
-  still_found : (e : K × X) (es : List (K × X)) (k : K) (v : X) → T (below_all R e.0 es) → find R k es ≡ Some v → find R k (e ∷ es) ≡ Some v
-  still_found e es k v below there = elim (R k e.0) as (λ r. R k e.0 ≡ r → cond (is_eq r) (Some e.1) (find R k es) ≡ Some v) [
-    | Less ↦ λ is. there
-    | Equal ↦ λ is. absurd (none-some v (sym (none_below R e.0 es below) ∙ find_tied R o k e.0 is es ∙ there))
-    | Greater ↦ λ is. there
-  ] refl
-
-  each_found : (es : List (K × X)) → T (is_sorted R es) → ((k : K) (v : X) → find R k es ≡ Some v → P k v) → AllByRecursion (λ e. P e.0 e.1) es
-  each_found [] sorted each = tt
-  each_found (e ∷ es) sorted each =
-      let tied : eq_by_cmp R e.0 e.0 ≡ true = ap is_eq (tied_itself o e.0) in
-      let below = left (below_all R e.0 es) (is_sorted R es) sorted in
-      let here : find R e.0 (e ∷ es) ≡ Some e.1 = rw tied refl in
-      (each e.0 e.1 here, each_found es (right (below_all R e.0 es) (is_sorted R es) sorted) (λ k v there. each k v (still_found e es k v below there)))
-
-  pub each_entry : (m : FinMap R X) → ((k : K) (v : X) → maps.get m k ≡ Some v → P k v) → AllByRecursion (λ e. P e.0 e.1) (maps.entries m)
-  each_entry m each = each_found (maps.entries m) (maps.entries_sorted m) (λ k v there. each k v (maps.get-entries m k ∙ there))
-
 -- ---- the pairs of a set
-
--- what holds of each member holds of each pair that is listed
-pub each_pair : (s : Pairs) (P : ℕ × ℕ → Type 0) → ((q : ℕ × ℕ) → sets.contains s q ≡ true → P q) → AllByRecursion P (pairs_in s)
-unfolding pairs_in
-each_pair s P each =
-    let m = as_keys (sets.items s) in
-    all_mapped (λ (e : (ℕ × ℕ) × Unit {0}). e.0) P (maps.entries m) (each_entry pair_cmp pair_cmp_total (λ k v. P k) m (λ k v there.
-    each k (sym (get-keys_of s k) ∙ ap is_some there)))
 
 pub pairs_rise : (s : Pairs) (key : ℕ × ℕ → ℕ) (P : ℕ × ℕ → Type 0) → ((x y : ℕ × ℕ) → P x → P y → pair_cmp x y ≡ Less → key x < key y) → AllByRecursion P (pairs_in s) → Rise key 0 (pairs_in s)
 unfolding pairs_in

@@ -1,15 +1,12 @@
 -- The links of a node to those above it.
-use Rattle.std.proofs.Common.{◌≡◌, ℕ, zero, suc, ◌+◌, ◌<◌, ◌≤◌, Bool, true, false, cond, eq-eqb, [], ◌∷◌, ◌++◌, length, refl, sym, ap, ◌∙◌, arith, length-append, inl, inr}
+use Rattle.std.proofs.Common.{◌≡◌, ℕ, suc, ◌+◌, ◌<◌, Bool, true, false, cond, [], ◌∷◌, ◌++◌, length, refl, sym, arith, length-append}
 use Rattle.std.specs.Prelude.{min, max}
 use Rattle.std.specs.Int.{from_bool}
 use Rattle.std.specs.FinSet as sets
-use Rattle.std.specs.Ordering.{nat_cmp}
-use Rattle.std.specs.Cmp.{nat_cmp_total, unsigned_tied}
-use Rattle.std.proofs.lemmas.Bool.{ne_eqb, cases_eq}
 use Rattle.aodv_model.specs.Pairs.{Pairs}
 use Rattle.aodv_asked.specs.Requests.{ids_below}
 use Rattle.aodv_asked.proofs.Listed.{ids_none}
-use Rattle.mesh_model.specs.Worlds.{are_linked, linked_below}
+use Rattle.mesh_model.specs.Worlds.{are_linked}
 use Rattle.mesh_model.specs.InMesh.{AreLinks}
 
 pub in_order : (pairs : Pairs) (a b : ℕ) → a < b → are_linked pairs a b ≡ sets.contains pairs (a, b)
@@ -37,30 +34,3 @@ count_next s o n count one b so_far byte here =
       | true ↦ sym (length-append (ids_below n s o) (n ∷ []))
       | false ↦ let none : from_bool false ≡ 0 = refl in omega (arith, none)
     ])
-
--- ---- the nodes in range
-
-linked_past : (links : Pairs) (a n b : ℕ) → n ≤ b → sets.contains (linked_below links a n) b ≡ false
-linked_past links a zero b le = sets.contains-empty nat_cmp b
-linked_past links a (suc n) b le =
-    let later = linked_past links a n b (omega (arith, le)) in
-    elim (are_linked links a n) as (λ l. sets.contains (cond l (sets.insert (linked_below links a n) n) (linked_below links a n)) b ≡ false) [
-      | true ↦ sets.contains-insert nat_cmp_total (linked_below links a n) n b ∙ rw (unsigned_tied b n, ne_eqb b n (λ e. absurd (omega (arith, e, le))), later) refl
-      | false ↦ later
-    ]
-
-pub linked_is : (links : Pairs) (a n b : ℕ) → b < n → sets.contains (linked_below links a n) b ≡ are_linked links a b
-linked_is links a zero b lt = absurd (omega arith)
-linked_is links a (suc n) b lt = elim (cases_eq b n) [
-  | inl same ↦
-      elim (are_linked links a n) as (λ l. are_linked links a n ≡ l → sets.contains (cond l (sets.insert (linked_below links a n) n) (linked_below links a n)) b ≡ are_linked links a b) [
-        | true ↦ λ is. sets.contains-insert nat_cmp_total (linked_below links a n) n b ∙ rw (unsigned_tied b n, eq-eqb b n same) (sym (ap (are_linked links a) same ∙ is))
-        | false ↦ λ is. linked_past links a n b (omega (arith, same)) ∙ sym (ap (are_linked links a) same ∙ is)
-      ] refl
-  | inr differ ↦
-      let later = linked_is links a n b (omega (arith, lt, differ)) in
-      elim (are_linked links a n) as (λ l. sets.contains (cond l (sets.insert (linked_below links a n) n) (linked_below links a n)) b ≡ are_linked links a b) [
-        | true ↦ sets.contains-insert nat_cmp_total (linked_below links a n) n b ∙ rw (unsigned_tied b n, ne_eqb b n differ) later
-        | false ↦ later
-      ]
-]

@@ -1,5 +1,5 @@
 -- The routes and the store of a node, as they are listed.
-use Rattle.std.proofs.Common.{◌≡◌, ◌≢◌, ℕ, ◌+◌, ◌<◌, ◌≤◌, true, List, [], ◌∷◌, length, Option, Some, None, refl, sym, ap, subst, ◌∙◌, arith, inl, inr}
+use Rattle.std.proofs.Common.{◌≡◌, ℕ, ◌+◌, ◌<◌, ◌≤◌, List, [], length, Option, Some, None, refl, sym, ap, subst, ◌∙◌, arith, inl, inr}
 use Rattle.std.specs.Prelude.{is_some, IfSome}
 use Rattle.std.specs.List.{flat_map}
 use Rattle.std.specs.FinMap as maps
@@ -7,9 +7,10 @@ use Rattle.std.proofs.lemmas.Bool.{cases_lt}
 use Rattle.std.proofs.lemmas.List.{length-map}
 use Rattle.aodv_model.specs.declared.entry.Entry.{Entry}
 use Rattle.aodv_model.specs.Tables.{Table}
-use Rattle.aodv_model.specs.Cores.{Body, Store, Waiting, has_data, bodies_in}
+use Rattle.aodv_model.specs.Cores.{Store, Waiting, has_data, bodies_in}
 use Rattle.aodv_model.specs.Soundness.{IsSoundTable, IsStoreInMesh}
 use Rattle.aodv_model.proofs.Keys.{below, below_all}
+use Rattle.aodv_node.proofs.Choices.{has_some}
 use Rattle.mesh_checkpoint.specs.Points.{route_of, routes_in, waits_of, waits_in}
 use Rattle.mesh_save.specs.Bytes.{route_bytes, waits_bytes}
 use Rattle.mesh_save.specs.Narrow.{IsNarrowEntry, AreEntriesNarrow}
@@ -41,17 +42,13 @@ all_narrow size ip rt n sound le each k e there = each k e (dests_below size ip 
 
 -- ---- the store
 
-some_data : (bs : List Body) → bs ≢ [] → has_data bs ≡ true
-some_data [] some = absurd (some refl)
-some_data (b ∷ bs) some = refl
-
 -- data wait for a destination that is there
 pub waiting_there : (size : ℕ) (store : Store) (d : ℕ) → IsStoreInMesh size store → has_data (bodies_in (maps.get store d)) ≡ is_some (maps.get store d)
 waiting_there size store d sound = go (maps.get store d) refl
   where
     go : (o : Option Waiting) → maps.get store d ≡ o → has_data (bodies_in o) ≡ is_some o
     go None is = refl
-    go (Some w) is = some_data w.bodies (sound d w is).some
+    go (Some w) is = has_some w.bodies (sound d w is).some
 
 stored_below : (size : ℕ) (store : Store) (n : ℕ) → IsStoreInMesh size store → size ≤ n → (k : ℕ) (w : Waiting) → maps.get store k ≡ Some w → k < n
 stored_below size store n sound le k w there = omega (arith, (sound k w there).dest, le)

@@ -68,5 +68,6 @@ reread mesh a text is range e started time =
     let P : List ℕ → Type 0 = λ t. line_of mesh started t ≡ Ok a in
     subst P (sym e) (printed_line_parses mesh started a is range time)
 
+-- append-nil, by a name that an attribute of a function can give
 pub append_none : (text : List ℕ) → text ++ [] ≡ text
 append_none text = append-nil text

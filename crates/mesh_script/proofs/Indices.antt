@@ -4,13 +4,14 @@ use Rattle.std.specs.Prelude.{◌↔◌}
 use Rattle.std.proofs.lemmas.Bool.{cases_lt, cases_eq}
 use Rattle.std.proofs.lemmas.Bool.Decides.{nat_tests}
 use Rattle.std.proofs.lemmas.List.Edits.{length-insert, get_or-insert_at, get_or-insert_below, get_or-insert_above}
+use Rattle.std.proofs.lemmas.Option.{same_Some}
+use Rattle.std.proofs.lemmas.List.Sums.{prefix_len-le-length}
 use Rattle.mesh_base.specs.Meshes.{Nodes, IsMesh, addr_at, index_of, with_node}
-use Rattle.mesh_base.proofs.PartLaws.{prefix_len_le}
 use Rattle.mesh_base.proofs.WrittenForms.{index_of-at}
 use Rattle.mesh_script.specs.Peers.{PeersSeen, index_for, moved_index, with_self, with_peer, ArePeers}
 
 pub index_within : (mesh : Nodes) (a : ℕ) → index_for mesh a ≤ length mesh
-index_within mesh a = prefix_len_le (λ q. not (ltb a q.0)) mesh
+index_within mesh a = prefix_len-le-length (λ q. not (ltb a q.0)) mesh
 
 -- one more node is found at its index
 pub found_there : (mesh now : Nodes) (a first : ℕ) → now ≡ with_node mesh a first → IsMesh now → index_of now a ≡ Some (index_for mesh a)
@@ -30,9 +31,6 @@ moved_up index i le = grind (arith, nat_tests)
 
 moved_not : (index i : ℕ) → i < index → moved_index index i ≡ i
 moved_not index i lt = grind (arith, nat_tests)
-
-pub same_index : (i j : ℕ) → Some i ≡ Some j → i ≡ j
-same_index i j h = cc
 
 no_index : (i : ℕ) → None ≡ Some i → ⊥
 no_index i h = cc
@@ -71,18 +69,18 @@ self_joins p a first none is =
       within = omega (arith, more, le);
       mine = λ i lt.
           port_there (λ q. (q ≡ 0) ↔ (Some index ≡ Some i)) p.ports index 0 i (omega (arith, le, is.each))
-          (λ early. (λ zero. absurd (no_index i (sym none ∙ (is.mine i (omega (arith, le))).0 zero)), λ e. let same = same_index index i e in absurd (omega arith)))
+          (λ early. (λ zero. absurd (no_index i (sym none ∙ (is.mine i (omega (arith, le))).0 zero)), λ e. let same = same_Some index i e in absurd (omega arith)))
           (λ same. (λ zero. ap Some (sym same), λ e. refl))
-          (λ j from next. (λ zero. absurd (no_index j (sym none ∙ (is.mine j (omega (arith, more, lt))).0 zero)), λ e. let same = same_index index i e in absurd (omega arith)));
+          (λ j from next. (λ zero. absurd (no_index j (sym none ∙ (is.mine j (omega (arith, more, lt))).0 zero)), λ e. let same = same_Some index i e in absurd (omega arith)));
     }
 
 -- where the node itself stands then
 moved_here : (me : Option ℕ) (index i : ℕ) → i < index → (me ≡ Some i) ↔ (option_map (moved_index index) me ≡ Some i)
 moved_here None index i lt = (λ h. absurd (no_index i h), λ h. absurd (no_index i h))
 moved_here (Some k) index i lt = (
-  λ h. let same = same_index k i h in ap Some (ap (moved_index index) same ∙ moved_not index i lt),
+  λ h. let same = same_Some k i h in ap Some (ap (moved_index index) same ∙ moved_not index i lt),
   λ h.
-      let same = same_index (moved_index index k) i h in
+      let same = same_Some (moved_index index k) i h in
       elim (cases_lt k index) [
         | inl early ↦ ap Some (sym (moved_not index k early) ∙ same)
         | inr late ↦ let up = moved_up index k late in absurd (omega arith)
@@ -92,9 +90,9 @@ moved_here (Some k) index i lt = (
 moved_past : (me : Option ℕ) (index j i : ℕ) → index ≤ j → i ≡ j + 1 → (me ≡ Some j) ↔ (option_map (moved_index index) me ≡ Some i)
 moved_past None index j i le next = (λ h. absurd (no_index j h), λ h. absurd (no_index i h))
 moved_past (Some k) index j i le next = (
-  λ h. let same = same_index k j h in ap Some (ap (moved_index index) same ∙ moved_up index j le ∙ sym next),
+  λ h. let same = same_Some k j h in ap Some (ap (moved_index index) same ∙ moved_up index j le ∙ sym next),
   λ h.
-      let same = same_index (moved_index index k) i h in
+      let same = same_Some (moved_index index k) i h in
       elim (cases_lt k index) [
         | inl early ↦ let not = moved_not index k early in absurd (omega arith)
         | inr late ↦ let up = moved_up index k late in let is : k ≡ j = omega arith in ap Some is
@@ -104,7 +102,7 @@ moved_past (Some k) index j i le next = (
 moved_not_there : (me : Option ℕ) (index i : ℕ) → i ≡ index → option_map (moved_index index) me ≡ Some i → ⊥
 moved_not_there None index i is h = no_index i h
 moved_not_there (Some k) index i is h =
-    let same = same_index (moved_index index k) i h in
+    let same = same_Some (moved_index index k) i h in
     elim (cases_lt k index) [
       | inl early ↦ let not = moved_not index k early in omega arith
       | inr late ↦ let up = moved_up index k late in omega arith

@@ -1,7 +1,6 @@
 -- What a line is read as is in its range, and a line that is written back is read as it.
-use Rattle.std.proofs.Common.{◌≡◌, ◌≢◌, ℕ, ◌^◌, ◌<◌, ◌≤◌, Bool, true, false, eqb, cond, List, [], ◌++◌, Option, Some, None, Result, Ok, Err, IfOk, length, refl, sym, ap, subst, ◌∙◌, arith, is_some}
+use Rattle.std.proofs.Common.{◌≡◌, ◌≢◌, ℕ, ◌^◌, ◌<◌, ◌≤◌, Bool, true, false, eqb, cond, List, [], Option, Some, None, Result, Ok, Err, IfOk, length, refl, sym, ap, subst, ◌∙◌, arith, is_some}
 use Rattle.std.proofs.lemmas.Bool.{eqb-false, ne_eqb}
-use Rattle.std.proofs.lemmas.List.{append-nil}
 use Rattle.mesh_base.specs.declared.limits.TheConstants.{MOST_NODES}
 use Rattle.mesh_base.specs.Meshes.{Nodes, IsMesh, addr_at, index_of}
 use Rattle.mesh_base.proofs.WrittenForms.{index_of-at}
@@ -29,9 +28,6 @@ use Rattle.mesh_script.specs.NodeSeen.{form_of, seen_line, IsAllowed}
 use Rattle.mesh_script.specs.Shapes.{said_of, seen_shape}
 use Rattle.mesh_script.proofs.Said.{word_of, row_of, Said, said}
 use Rattle.mesh_text.proofs.Printed.{is_word}
-
-pub append_none : (text : List ℕ) → text ++ [] ≡ text
-append_none text = append-nil text
 
 -- ---- what is read is in its range
 

@@ -26,7 +26,7 @@ fn push_of_node(out: &mut LineBuf, word: &[u8], mesh: &Mesh, node: usize)
 }
 
 /// Appends a line in canonical form, without LF. Nothing is appended for a blank line.
-#[tactic(auto, using(crate::proofs::NodeAllowed::append_none), unfolding(crate::specs::NodeLines::words_of))]
+#[tactic(auto, using(crate::proofs::Allowed::append_none), unfolding(crate::specs::NodeLines::words_of))]
 pub fn push_node_line(out: &mut LineBuf, peers: &Peers, line: &NodeLine<'_>)
     requires printable { IsPrintable peers.now line.now }
     requires room { length out.old.items + LONGEST_WRITTEN ≤ LINE_CAPACITY }

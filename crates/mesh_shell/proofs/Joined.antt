@@ -8,8 +8,8 @@ use Rattle.std.proofs.lemmas.List.Splits.{join_with_byte-slice_split}
 use Rattle.std.proofs.lemmas.List.{append_assoc}
 use Rattle.std.proofs.lemmas.Bool.Decides.{nat_tests}
 use Rattle.mesh_base.specs.Parts.{parts}
+use Rattle.mesh_base.proofs.Lemmas.Lists.{some_parts}
 use Rattle.mesh_io.specs.declared.limits.Limits.{Limits}
-use Rattle.mesh_io.proofs.FirstParts.{some_parts}
 use Rattle.mesh_shell.specs.Pieces.{Piece, Whole, Long, Beyond, last_piece, pieces_of, pieces_within}
 use Rattle.mesh_shell.specs.Laws.{AreWhole, text_of}
 
@@ -18,7 +18,7 @@ abbrev AreText : List Piece → List ℕ → Type 0
 AreText pieces text = (text_of pieces ≡ text) ⊎ (text_of pieces ≡ text ++ 10 ∷ [])
 
 -- a last part, where the input goes on, is no line
-more_past : (most : Limits) (l : List ℕ) → 1 ≤ length l → AreWhole (last_piece most true l) → ⊥
+pub more_past : (most : Limits) (l : List ℕ) → 1 ≤ length l → AreWhole (last_piece most true l) → ⊥
 more_past most [] some whole = whole
 more_past most (b ∷ bs) some whole = by_test (leb (length (b ∷ bs)) most.line) whole
   where
@@ -51,7 +51,7 @@ lines_text most more (l ∷ m ∷ ls) whole = by_test (lines_text most more (m �
     by_test others false whole = absurd whole
 
 -- a text that goes past its limit has a last piece that says so
-no_more : (most : Limits) (ls : List (List ℕ)) → 1 ≤ length ls → AreWhole (pieces_of most true ls) → ⊥
+pub no_more : (most : Limits) (ls : List (List ℕ)) → 1 ≤ length ls → AreWhole (pieces_of most true ls) → ⊥
 unfolding pieces_of
 no_more most [] some whole = absurd (omega arith)
 no_more most ([] ∷ []) some whole = whole
@@ -67,7 +67,7 @@ lines_are_the_text most text whole = by_test (nat_lt most.input (length text)) r
   where
     by_test : (b : Bool) → nat_lt most.input (length text) ≡ b → AreWhole (pieces_of most b (parts 10 (take most.input text)))
         → AreText (pieces_of most b (parts 10 (take most.input text))) text
-    by_test true long whole = absurd (no_more most (parts 10 (take most.input text)) (some_parts (take most.input text)) whole)
+    by_test true long whole = absurd (no_more most (parts 10 (take most.input text)) (some_parts 10 (take most.input text)) whole)
     by_test false short whole =
         let all : take most.input text ≡ text = take_all most.input text (grind (arith, nat_tests)) in
         subst (AreText (pieces_of most false (parts 10 (take most.input text))))

@@ -5,8 +5,9 @@ use Rattle.std.proofs.lemmas.Bool.Decides.{nat_tests}
 use Rattle.std.proofs.lemmas.List.{length-take}
 use Rattle.std.proofs.Math.Seq.{take_all}
 use Rattle.mesh_base.specs.Parts.{parts}
+use Rattle.mesh_base.proofs.Lemmas.Lists.{some_parts}
 use Rattle.mesh_io.specs.NextLines.{FirstLine, first_line, line_size, NextLine, End, Line, TooLong, TooMuch, next_of}
-use Rattle.mesh_io.proofs.FirstParts.{first_length, nothing_after, whole_line, parts_within, parts_past, some_parts, goes_past, fits_in}
+use Rattle.mesh_io.proofs.FirstParts.{first_length, nothing_after, whole_line, parts_within, parts_past, goes_past, fits_in}
 use Rattle.mesh_io.specs.declared.limits.Limits.{Limits}
 use Rattle.mesh_shell.specs.Pieces.{Piece, Whole, Long, Beyond, piece_of, last_piece, pieces_of, pieces_within}
 
@@ -43,6 +44,11 @@ piece_long most l h = by_test (leb (length l) most.line) refl
     by_test : (b : Bool) → leb (length l) most.line ≡ b → cond b (Whole l) Long ≡ Long
     by_test true e = absurd (grind (arith, nat_tests))
     by_test false e = refl
+
+pub last_few : (most : Limits) (more : Bool) (l : List ℕ) → length (last_piece most more l) ≤ 1
+last_few most true [] = omega arith
+last_few most false [] = omega arith
+last_few most more (b ∷ bs) = omega arith
 
 -- a last part that is too long, whether or not the input goes on
 last_long : (most : Limits) (more : Bool) (l : List ℕ) → most.line < length l → last_piece most more l ≡ Long ∷ []
@@ -88,7 +94,7 @@ pieces_line most given bytes ends fits =
     let all : length bytes ≡ length f.line + (1 + length f.rest) = first_length bytes ∙ ap (λ b. length f.line + cond b (1 + length f.rest) 0) ends in
     let more : nat_lt room (length bytes) ≡ nat_lt (most.input - (given + length f.line + 1)) (length f.rest) = shifted room (length bytes) (most.input - (given + length f.line + 1)) (length f.rest) (length f.line + 1) (omega arith) (omega arith) in
     ap₂ (pieces_of most) more (parts_within bytes room ends (omega arith) ∙ ap (λ k. f.line ∷ parts 10 (take k f.rest)) rest)
-    ∙ first_piece most (nat_lt (most.input - (given + length f.line + 1)) (length f.rest)) f.line (parts 10 (take (most.input - (given + length f.line + 1)) f.rest)) (some_parts (take (most.input - (given + length f.line + 1)) f.rest))
+    ∙ first_piece most (nat_lt (most.input - (given + length f.line + 1)) (length f.rest)) f.line (parts 10 (take (most.input - (given + length f.line + 1)) f.rest)) (some_parts 10 (take (most.input - (given + length f.line + 1)) f.rest))
   where
     shifted : (a b c d k : ℕ) → a ≡ c + k → b ≡ d + k → nat_lt a b ≡ nat_lt c d
     shifted a b c d k ea eb = by_test (ltb c d) refl

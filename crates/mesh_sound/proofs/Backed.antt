@@ -4,26 +4,26 @@ use Rattle.std.specs.Prelude.{slice_get, IfSome}
 use Rattle.std.specs.Ordering.{nat_cmp}
 use Rattle.std.specs.FinMap as maps
 use Rattle.std.proofs.lemmas.Option.{slice_get_past}
+use Rattle.mesh_base.proofs.Lemmas.Lists.{each_at}
 use Rattle.aodv_model.specs.declared.entry.Entry.{Entry}
 use Rattle.aodv_model.specs.declared.entry.Flag.TheVariants.{Val, Inv}
 use Rattle.aodv_node.specs.Seen.{NodeSeen, IsSoundNode}
 use Rattle.mesh_model.specs.Invariants.{IsBacked}
 use Rattle.mesh_sound.specs.Claims.{AreSized, table, table_in}
 use Rattle.mesh_sound.specs.Edges.{IsBackedAt}
-use Rattle.mesh_sound.proofs.Indices.{at}
 
 entry_at : (nodes : List NodeSeen) (x d : ℕ) (n : NodeSeen) (e : Entry) → slice_get nodes x ≡ Some n → maps.get (n.core).rt d ≡ Some e → maps.get (table nodes x) d ≡ Some e
-entry_at nodes x d n e at there = ap (λ (o : Option NodeSeen). maps.get (table_in o) d) at ∙ there
+entry_at nodes x d n e each_at there = ap (λ (o : Option NodeSeen). maps.get (table_in o) d) each_at ∙ there
 
 pub backed_at : (nodes : List NodeSeen) (x d : ℕ) (n : NodeSeen) (e : Entry) → slice_get nodes x ≡ Some n → maps.get (n.core).rt d ≡ Some e → IsBacked (table nodes) d e → IsBackedAt nodes x d
-backed_at nodes x d n e at there backed = subst (λ (o : Option Entry). IfSome o (IsBacked (table nodes) d)) (sym (entry_at nodes x d n e at there)) backed
+backed_at nodes x d n e each_at there backed = subst (λ (o : Option Entry). IfSome o (IsBacked (table nodes) d)) (sym (entry_at nodes x d n e each_at there)) backed
 
 pub at_backed : (nodes : List NodeSeen) (x d : ℕ) (n : NodeSeen) (e : Entry) → slice_get nodes x ≡ Some n → maps.get (n.core).rt d ≡ Some e → IsBackedAt nodes x d → IsBacked (table nodes) d e
-at_backed nodes x d n e at there backed = subst (λ (o : Option Entry). IfSome o (IsBacked (table nodes) d)) (entry_at nodes x d n e at there) backed
+at_backed nodes x d n e each_at there backed = subst (λ (o : Option Entry). IfSome o (IsBacked (table nodes) d)) (entry_at nodes x d n e each_at there) backed
 
 -- a node is of a mesh of so many nodes
 pub size_of : (nodes : List NodeSeen) (x : ℕ) (n : NodeSeen) → AreSized nodes → slice_get nodes x ≡ Some n → n.size ≡ length nodes
-size_of nodes x n sizes is = at (λ (m : NodeSeen). m.size ≡ length nodes) nodes x n sizes is
+size_of nodes x n sizes is = each_at (λ (m : NodeSeen). m.size ≡ length nodes) nodes x n sizes is
 
 -- the next hop is one of the nodes
 pub next_near : (nodes : List NodeSeen) (x d : ℕ) (n : NodeSeen) (e : Entry) → AreSized nodes → slice_get nodes x ≡ Some n → IsSoundNode n → maps.get (n.core).rt d ≡ Some e → e.next < length nodes

@@ -1,24 +1,14 @@
 -- All elements of a list, one after another.
-use Rattle.std.proofs.Common.{◌≡◌, ℕ, zero, suc, ◌+◌, ◌≤◌, List, [], ◌∷◌, ◌++◌, length, drop, take, Some, sym, ap, subst, ◌∙◌, arith}
+use Rattle.std.proofs.Common.{◌≡◌, ℕ, suc, ◌+◌, ◌≤◌, List, [], ◌∷◌, ◌++◌, length, drop, take, Some, sym, ap, subst, ◌∙◌, arith}
 use Rattle.std.specs.Prelude.{slice_get}
 use Rattle.std.specs.List.{AllByRecursion}
-use Rattle.std.proofs.lemmas.Option.{none-some, same_Some, slice_get_within, get_or_from_slice_get}
+use Rattle.std.proofs.lemmas.Option.{slice_get_within, get_or_from_slice_get}
 use Rattle.std.proofs.lemmas.List.{drop_all, take_more}
-
--- what holds of all holds of the one at this index
-pub at : {A : Type 0} (P : A → Type 0) (xs : List A) (k : ℕ) (x : A) → AllByRecursion P xs → slice_get xs k ≡ Some x → P x
-at P [] k x all is = absurd (none-some x is)
-at P (y ∷ ys) zero x all is = subst P (same_Some y x is) all.0
-at P (y ∷ ys) (suc k) x all is = at P ys k x all.1 is
-
-from' : {A : Type 0} (xs : List A) (k : ℕ) (x : A) → slice_get xs k ≡ Some x → drop k xs ≡ x ∷ drop (suc k) xs
-from' [] k x is = absurd (none-some x is)
-from' (y ∷ ys) zero x is = ap (λ z. z ∷ ys) (same_Some y x is)
-from' (y ∷ ys) (suc k) x is = from' ys k x is
+use Rattle.mesh_base.proofs.Lemmas.Lists.{drop_from}
 
 -- what is left from an index on begins with what stands there
 pub from : {A : Type 0} (xs : List A) (k : ℕ) (x : A) → slice_get xs k ≡ Some x → drop k xs ≡ x ∷ drop (k + 1) xs
-from xs k x is = let up : suc k ≡ k + 1 = omega arith in from' xs k x is ∙ ap (λ n. x ∷ drop n xs) up
+from xs k x is = let up : suc k ≡ k + 1 = omega arith in drop_from xs k x is ∙ ap (λ n. x ∷ drop n xs) up
 
 -- where P holds of what is left, it holds of all
 abbrev pub IsEnough : {A : Type 0} → (A → Type 0) → List A → List A → Type 0

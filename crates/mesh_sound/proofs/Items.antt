@@ -1,5 +1,5 @@
 -- Packets in inboxes and in flight, one after another.
-use Rattle.std.proofs.Common.{◌≡◌, ℕ, ◌+◌, ◌<◌, false, true, List, [], ◌∷◌, sym, subst, arith}
+use Rattle.std.proofs.Common.{◌≡◌, ℕ, ◌+◌, ◌<◌, List, [], ◌∷◌, sym, subst, arith}
 use Rattle.std.specs.List.{AllByRecursion}
 use Rattle.mesh_base.specs.declared.events.Flying.{Flying}
 use Rattle.mesh_base.specs.declared.events.Item.{Item}
@@ -9,9 +9,6 @@ use Rattle.mesh_radio.specs.Copies.{from_id}
 use Rattle.mesh_radio.proofs.Finds.{from_zero, all-from}
 use Rattle.mesh_sound.specs.Packets.{InItem}
 use Rattle.mesh_sound.proofs.Indices.{IsEnough}
-
-pub different : false ≡ true → ⊥
-different e = cc
 
 -- whom a node heard is in the mesh
 pub item_near : (size me n : ℕ) (i : Item) → size ≡ n → IsItemAt size me i → InItem (λ from _. from < n) i

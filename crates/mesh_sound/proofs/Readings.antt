@@ -4,15 +4,12 @@ use Rattle.mesh_base.specs.Meshes.{Nodes, IsMesh}
 use Rattle.aodv_model.specs.Soundness.{IsMessageInMesh}
 use Rattle.aodv_wire.specs.declared.message.Message as wire
 use Rattle.aodv_wire.specs.Encodes.{Encodes, encoding}
-use Rattle.aodv_meaning.specs.Meaning.{in_mesh, meaning, stranger}
+use Rattle.aodv_meaning.specs.Meaning.{in_mesh, stranger}
 use Rattle.aodv_meaning.specs.Sent.{IsWritable, IsAsWritten}
 use Rattle.aodv_meaning.proofs.Means.{spelled_in}
 use Rattle.aodv_meaning.proofs.Writings.{written_is_sent}
+use Rattle.aodv_node.proofs.Readings.{means}
 use Rattle.mesh_meaning.specs.Packets.{IsWritten}
-
-pub means : (mesh : Nodes) (b : List ℕ) (m : wire.Message) → Encodes b m → meaning mesh b ≡ in_mesh mesh m
-unfolding meaning
-means mesh b m s = ap (in_mesh mesh) s.stands
 
 -- ---- of bytes that are read, whether they are written
 

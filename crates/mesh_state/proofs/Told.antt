@@ -1,8 +1,9 @@
 -- What was written and answered, from what the calls below say.
-use Rattle.std.proofs.Common.{◌≡◌, ◌≢◌, ◌∙◌, ◌⊎◌, ℕ, inl, inr, List, [], ◌++◌, Option, Some, None, IfSome, refl, ap, sym, subst, append-nil}
+use Rattle.std.proofs.Common.{◌≡◌, ◌≢◌, ◌∙◌, ◌⊎◌, ℕ, inl, inr, List, [], ◌++◌, Option, Some, None, IfSome, refl, ap, sym, subst}
 use Rattle.std.specs.Io.KnownBytes.{Appends, Keeps}
 use Rattle.mesh_base.specs.declared.events.Variant.TheVariants.{Base}
 use Rattle.mesh_io.proofs.Writing.{Appends-join, AppendsPrefix-join, Keeps-same}
+use Rattle.mesh_io.proofs.Ahead.{Keeps-if}
 use Rattle.mesh_text.specs.Schedule.{RunState, opening}
 use Rattle.mesh_text.specs.Text.{RunText, whole, text_on}
 use Rattle.mesh_text.specs.declared.verdict.Verdict.{Verdict}
@@ -50,11 +51,6 @@ stopped_told say start (Some bytes) after a b s l e other t = stopped bytes afte
 nothing_said : (w : RunText) (a b : Option (List ℕ)) → w.verdict ≡ Finished → Appends a b (whole (part Faults w)) → Appends a b []
 nothing_said w a b finished t = let P : Verdict → Type 0 = λ v. Appends a b ([] ++ fault_line v w.last) in subst P finished t
 
-keeps_of : (a b : Option (List ℕ)) → Appends a b [] → Keeps a b
-keeps_of None b t = tt
-keeps_of (Some xs) None t = t
-keeps_of (Some xs) (Some ys) t = t ∙ append-nil xs
-
 -- the run came to this state, and no line was told
 record CameTo (bytes : List ℕ) (at : RunState) (a b : Option (List ℕ)) : Type 0 where
   finished : (text_on (opening Base) bytes).verdict ≡ Finished
@@ -100,7 +96,7 @@ saved bytes at after a b c r came done cut big (inr (inl is)) =
 saved bytes at after a b c r came done cut big (inr (inr is)) =
     let P : StateStatus → Type 0 = IsAnswered Save bytes after a c in
     let long = big is in
-    let kept : Keeps a c = subst (λ k. Keeps a k) (sym long.1) (keeps_of a b came.nothing) in
+    let kept : Keeps a c = subst (λ k. Keeps a k) (sym long.1) (Keeps-if a b came.nothing) in
     let so : IsTooBig (text_on (opening Base) bytes) a c = record { finished = came.finished; long = subst IsTooLong came.after long.0; kept = kept } in
     subst P (sym is) so
 

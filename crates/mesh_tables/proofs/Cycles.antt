@@ -1,6 +1,7 @@
 -- Sound tables have no cycle: along a walk entries become better.
-use Rattle.std.proofs.Common.{◌≡◌, ℕ, ◌<◌, ◌⊎◌, Bool, true, false, List, [], ◌∷◌, refl, ap, subst, arith, inl, inr}
+use Rattle.std.proofs.Common.{◌≡◌, ℕ, ◌<◌, ◌⊎◌, true, List, [], ◌∷◌, refl, ap, subst, arith, inl, inr}
 use Rattle.std.proofs.lemmas.Bool.Decides.{nat_tests}
+use Rattle.std.proofs.lemmas.Bool.{cases_Bool}
 use Rattle.aodv_model.specs.Quality.{nsqn}
 use Rattle.aodv_model.specs.declared.entry.Flag.TheVariants.{Val}
 use Rattle.mesh_tables.specs.declared.row.Row.{Row}
@@ -22,13 +23,9 @@ net a v = rw v refl
 said_better : (a b : Row) → a.flag ≡ Val → b.flag ≡ Val → is_better_row a b ≡ true → IsBetter a b
 said_better a b v w better = let m = net a v in let n = net b w in grind (arith, nat_tests)
 
-true_or_false : (b : Bool) → (b ≡ true) ⊎ (b ≡ false)
-true_or_false true = inl refl
-true_or_false false = inr refl
-
 edge_better : (t : Tables) (d x y z : ℕ) → IsSound t → (first : Edge t d x y) (second : Edge t d y z) → IsBetter second.row first.row
 edge_better t d x y z sound first second =
-    elim (true_or_false (is_better_row second.row first.row)) [
+    elim (cases_Bool (is_better_row second.row first.row)) [
       | inl better ↦ said_better second.row first.row second.valid first.valid better
       | inr worse ↦ absurd (sound d x y (record { edge = first; other = second.apart; row = second.row; there = second.there; valid = second.valid; worse = worse }))
     ]

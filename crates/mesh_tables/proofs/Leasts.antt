@@ -5,13 +5,14 @@ use Rattle.std.specs.Ordering.{nat_cmp, is_eq}
 use Rattle.std.specs.declared.cmp.Ordering.{Ordering}
 use Rattle.std.specs.declared.cmp.Ordering.TheVariants.{Less, Equal, Greater}
 use Rattle.std.specs.BTreeMap.{is_at}
-use Rattle.std.proofs.lemmas.Option.{same_Some, none-some}
+use Rattle.std.proofs.lemmas.Option.{none-some, cond_some}
 use Rattle.std.proofs.lemmas.Map.Lookups.{exact_unsigned}
 use Rattle.std.proofs.lemmas.Bool.Decides.{nat_tests}
-use Rattle.std.proofs.lemmas.Bool.{eqb-false, ne_eqb, not-true, not-false, and_parts}
+use Rattle.std.proofs.lemmas.Bool.{eqb-false, ne_eqb, not-true, not-false, and_parts, or_parts}
+use Rattle.mesh_base.proofs.Lemmas.Bools.{not_barred}
 use Rattle.aodv_model.specs.Quality.{is_val}
-use Rattle.aodv_model.specs.declared.entry.Flag.{Flag}
-use Rattle.aodv_model.specs.declared.entry.Flag.TheVariants.{Val, Inv}
+use Rattle.aodv_model.specs.declared.entry.Flag.TheVariants.{Val}
+use Rattle.aodv_model.proofs.Readings.{valid_flag}
 use Rattle.mesh_tables.specs.declared.row.Row.{Row}
 use Rattle.mesh_tables.specs.declared.search.FailingEdge.{FailingEdge}
 use Rattle.mesh_tables.specs.Tables.{Tables, Fails, Cycle, IsFirstFault, is_better_row}
@@ -21,43 +22,27 @@ use Rattle.mesh_tables.proofs.Cycles.{no_cycle}
 
 -- ---- one edge
 
-picked : {A : Type 0} (b : Bool) (x y : A) → cond b (Some x) None ≡ Some y → (b ≡ true) × (x ≡ y)
-picked true x y e = (refl, same_Some x y e)
-picked false x y e = absurd cc
-
-passed : {A : Type 0} (b : Bool) (o : Option A) (y : A) → cond b None o ≡ Some y → (b ≡ false) × (o ≡ Some y)
-passed true o y e = absurd cc
-passed false o y e = (refl, e)
-
-neither : (a b : Bool) → (a || b) ≡ false → (a ≡ false) × (b ≡ false)
-neither true b e = absurd cc
-neither false b e = (refl, e)
-
-valid_from : (f : Flag) → is_val f ≡ true → f ≡ Val
-valid_from Val e = refl
-valid_from Inv e = absurd cc
-
 against_fails : (t : Tables) (d x y : ℕ) (e : Row) (o : Option Row) → x ≢ d → t x d ≡ Some e → e.flag ≡ Val → e.next ≢ d → t e.next d ≡ o → next_against e o ≡ Some y → Fails t d x y
 against_fails t d x y e None apart there valid other next is = absurd (none-some y is)
 against_fails t d x y e (Some f) apart there valid other next is =
-    let found = picked (is_val f.flag && not (is_better_row f e)) e.next y is in
+    let found = cond_some (is_val f.flag && not (is_better_row f e)) e.next y is in
     let both = and_parts (is_val f.flag) (not (is_better_row f e)) found.0 in
     record {
       edge = record { apart = apart; row = e; there = there; valid = valid; next = found.1 };
       other = λ same. other (found.1 ∙ same);
       row = f;
       there = subst (λ k. t k d ≡ Some f) found.1 next;
-      valid = valid_from f.flag both.0;
+      valid = valid_flag f.flag both.0;
       worse = not-true (is_better_row f e) both.1;
     }
 
 next_fails : (t : Tables) (d x y : ℕ) (e : Row) → t x d ≡ Some e → failing_next t x d e ≡ Some y → Fails t d x y
 unfolding failing_next
 next_fails t d x y e there is =
-    let first = passed (eqb x d || (not (is_val e.flag) || eqb e.next d)) (next_against e (t e.next d)) y is in
-    let apart = neither (eqb x d) (not (is_val e.flag) || eqb e.next d) first.0 in
-    let parts = neither (not (is_val e.flag)) (eqb e.next d) apart.1 in
-    against_fails t d x y e (t e.next d) (eqb-false x d apart.0) there (valid_from e.flag (not-false (is_val e.flag) parts.0)) (eqb-false e.next d parts.1) refl first.1
+    let first = not_barred (eqb x d || (not (is_val e.flag) || eqb e.next d)) (next_against e (t e.next d)) y is in
+    let apart = or_parts (eqb x d) (not (is_val e.flag) || eqb e.next d) first.0 in
+    let parts = or_parts (not (is_val e.flag)) (eqb e.next d) apart.1 in
+    against_fails t d x y e (t e.next d) (eqb-false x d apart.0) there (valid_flag e.flag (not-false (is_val e.flag) parts.0)) (eqb-false e.next d parts.1) refl first.1
 
 by_fails : (t : Tables) (d x y : ℕ) (o : Option Row) → t x d ≡ o → failing_by t x d o ≡ Some y → Fails t d x y
 by_fails t d x y None there is = absurd (none-some y is)

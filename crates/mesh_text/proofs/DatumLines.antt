@@ -3,7 +3,7 @@ use Rattle.std.proofs.Common.{◌≡◌, ℕ, ◌+◌, ◌/◌, ◌%◌, ◌<◌
 use Rattle.std.specs.Prelude.{nat_lt}
 use Rattle.std.specs.List.{flat_map}
 use Rattle.std.specs.Str.{bytes_eq}
-use Rattle.std.proofs.lemmas.Bool.{and_parts, false_from_ne_true}
+use Rattle.std.proofs.lemmas.Bool.{and_parts, false_from_ne_true, ltb-true, ltb-false}
 use Rattle.std.proofs.lemmas.Bool.Decides.{same_from_decides, Decides-and, Decides-eqb}
 use Rattle.std.proofs.lemmas.List.{append_cancel_left, append_cancel_right}
 use Rattle.std.proofs.lemmas.Option.{same_Some}
@@ -13,7 +13,6 @@ use Rattle.aodv_model.proofs.Entries.{if_case}
 use Rattle.mesh_base.specs.Addresses.{address_of, dotted_decimal}
 use Rattle.mesh_base.specs.Meshes.{Nodes, IsMesh, addr_at, index_of}
 use Rattle.mesh_base.specs.Parts.{parts}
-use Rattle.mesh_base.proofs.MeshLaws.{below_if, from_if}
 use Rattle.mesh_base.proofs.WrittenForms.{parts_at, address_of-dotted, dotted_lacks, index_of-at}
 use Rattle.mesh_grammar.specs.Written.{line}
 use Rattle.mesh_text.specs.Accounts.{begins}
@@ -31,10 +30,10 @@ cons_parts e = (cc, cc)
 hex_apart : (a b : ℕ) → hex_digit a ≡ hex_digit b → a ≡ b
 hex_apart a b =
     if_case (λ l. l ≡ hex_digit b → a ≡ b) (nat_lt a 10) (48 + a) (87 + a)
-    (λ low. let la = below_if a 10 low in
-    if_case (λ l. 48 + a ≡ l → a ≡ b) (nat_lt b 10) (48 + b) (87 + b) (λ _ e. omega (arith, e)) (λ high e. let hb = from_if b 10 high in absurd (omega (arith, e, la, hb))))
-    (λ high. let ha = from_if a 10 high in
-    if_case (λ l. 87 + a ≡ l → a ≡ b) (nat_lt b 10) (48 + b) (87 + b) (λ low e. let lb = below_if b 10 low in absurd (omega (arith, e, ha, lb))) (λ _ e. omega (arith, e)))
+    (λ low. let la = ltb-true a 10 low in
+    if_case (λ l. 48 + a ≡ l → a ≡ b) (nat_lt b 10) (48 + b) (87 + b) (λ _ e. omega (arith, e)) (λ high e. let hb = ltb-false b 10 high in absurd (omega (arith, e, la, hb))))
+    (λ high. let ha = ltb-false a 10 high in
+    if_case (λ l. 87 + a ≡ l → a ≡ b) (nat_lt b 10) (48 + b) (87 + b) (λ low e. let lb = ltb-true b 10 low in absurd (omega (arith, e, ha, lb))) (λ _ e. omega (arith, e)))
 
 -- a byte that stands for itself is no backslash
 no_backslash : (b : ℕ) → (leb 32 b && leb b 126 && not (eqb b 92)) ≡ true → b ≡ 92 → ⊥

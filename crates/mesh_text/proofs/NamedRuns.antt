@@ -68,7 +68,7 @@ names_silent {k = k} mesh w es text none names = subst (λ l. Names k mesh w l t
 -- ---- events one after another
 
 -- an event that is refused is the last
-unfoldable Stops : Outcome → List Event → Type 0
+unfoldable pub Stops : Outcome → List Event → Type 0
 Stops Idle es = Unit {0}
 Stops (worlds.Full x f) es = es ≡ []
 Stops (Next w h) es = Unit {0}
@@ -77,7 +77,7 @@ unfoldable AllStop : RunState → List Event → Type 0
 AllStop m [] = Unit {0}
 AllStop m (e ∷ es) = Stops (outcome_at m e) es × AllStop (next_state m e) es
 
-alone_stops : (o : Outcome) → Stops o []
+pub alone_stops : (o : Outcome) → Stops o []
 unfolding Stops
 alone_stops Idle = tt
 alone_stops (worlds.Full x f) = refl

@@ -1,11 +1,12 @@
 -- The worlds of a run are those of the run of its events.
-use Rattle.std.proofs.Common.{◌≡◌, ◌≢◌, ℕ, zero, suc, ◌+◌, ◌-◌, ◌≤◌, ◌⊎◌, inl, inr, true, false, List, [], ◌∷◌, ◌++◌, Option, Some, None, Result, Ok, Err, length, length-append, append-nil, take, refl, sym, ap, ap₂, subst, ◌∙◌, arith, is_some}
+use Rattle.std.proofs.Common.{◌≡◌, ◌≢◌, ℕ, ◌+◌, ◌-◌, ◌≤◌, ◌⊎◌, inl, inr, true, false, List, [], ◌∷◌, ◌++◌, Option, Some, None, Result, Ok, Err, length, length-append, append-nil, take, refl, sym, ap, ap₂, subst, ◌∙◌, arith, is_some}
 use Rattle.std.proofs.lemmas.List.{length-map}
 use Rattle.std.proofs.Math.Seq.{take-append-add}
 use Rattle.std.specs.Option.{unwrap_or}
 use Rattle.std.specs.List.{AllByRecursion}
 use Rattle.mesh_base.specs.Meshes.{Nodes}
 use Rattle.mesh_base.specs.declared.events.Variant.{Variant}
+use Rattle.mesh_base.proofs.Lemmas.Lists.{each_take}
 use Rattle.mesh_model.specs.Worlds as worlds
 use Rattle.mesh_model.specs.Worlds.{World, Event, Outcome, Idle, Next, step, after, run, start, first_numbers}
 use Rattle.mesh_model.specs.InMesh.{IsEvent}
@@ -298,11 +299,6 @@ events_are_of_mesh v input = (input_follows v input).usual
 pub runs_are_loop_free : RunsAreLoopFree
 runs_are_loop_free v input k d =
     loop_free v (first_numbers (mesh_of_input v input)) (take k (events_of_input v input)) d (all_positive (mesh_of_input v input) (input_kept v input).mesh)
-
-each_take : (P : Event → Type 0) (k : ℕ) (es : List Event) → AllByRecursion P es → AllByRecursion P (take k es)
-each_take P zero es all = tt
-each_take P (suc k) [] all = tt
-each_take P (suc k) (e ∷ es) all = (all.0, each_take P k es all.1)
 
 -- the first k events of an input are of its mesh
 first_events : (v : Variant) (input : List ℕ) (k : ℕ) → AllByRecursion (IsEvent (length (first_numbers (mesh_of_input v input)))) (take k (events_of_input v input))

@@ -1,24 +1,24 @@
 -- What holds in every state of a run: its world is the one that the events so far lead to.
-use Rattle.std.proofs.Common.{◌≡◌, ℕ, zero, suc, ◌+◌, ◌-◌, List, [], ◌∷◌, ◌++◌, Option, Some, None, length, length-append, append-nil, append_assoc, take, drop, refl, sym, ap, subst, ◌∙◌, arith}
-use Rattle.std.specs.Prelude.{slice_get}
-use Rattle.std.proofs.lemmas.List.{take-append-drop}
-use Rattle.std.proofs.lemmas.Option.{none-some, same_Some}
+use Rattle.std.proofs.Common.{◌≡◌, ℕ, zero, suc, ◌+◌, ◌-◌, List, [], ◌∷◌, ◌++◌, Option, Some, None, length, length-append, append_assoc, take, drop, refl, sym, ap, subst, ◌∙◌, arith, true, inl, inr}
+use Rattle.std.specs.Prelude.{slice_get, is_some}
+use Rattle.std.proofs.lemmas.List.{take-append-drop, take_all}
 use Rattle.std.proofs.Math.Seq.{take-append_seam}
 use Rattle.mesh_base.specs.declared.events.Variant.{Variant}
+use Rattle.mesh_base.proofs.Lemmas.Lists.{drop_from}
 use Rattle.mesh_model.specs.Worlds.{Event, run, start, first_numbers}
 use Rattle.mesh_model.specs.Invariants.{IsLoopSafe}
 use Rattle.mesh_model.proofs.Steps.{run_kept}
 use Rattle.mesh_model.proofs.Acyclic.{no_cycle}
 use Rattle.mesh_shell.specs.Pieces.{Piece}
 use Rattle.mesh_shell.specs.Fold as shell
-use Rattle.mesh_text.specs.Schedule.{RunState, opening, world_of, next_state}
+use Rattle.mesh_text.specs.Schedule.{RunState, opening, world_of, next_state, with_line_read}
 use Rattle.mesh_text.specs.Lines.{done_line}
 use Rattle.mesh_text.specs.Text.{pieces_of_input, LineOutcome, On, Refused, Full, outcome_of_piece, RunText, goes_on, text_from}
 use Rattle.mesh_text.specs.declared.verdict.Verdict.TheVariants.{Finished, FullAt}
 use Rattle.mesh_text.specs.Runs.{events_of_piece, events_after, events_from, events_of_input, run_state_after, state_in_next, prefix_of_input, run_state_at}
 use Rattle.mesh_text.specs.Laws.{StateIsOfRun, RunStateIsLoopFree, LastLineIsOfLastState}
-use Rattle.mesh_text.proofs.RunStates.{IsKept, opening_kept, text_kept}
-use Rattle.mesh_text.proofs.RunLaws.{run_append, NotFull, Follows, follows}
+use Rattle.mesh_text.proofs.RunStates.{IsKept, opening_kept, text_kept, UsualList, stepped_kept}
+use Rattle.mesh_text.proofs.RunLaws.{run_append, NotFull, Follows, follows, GoesBy}
 
 -- ---- after events
 
@@ -36,6 +36,38 @@ pub count_after_events : (m : RunState) (es : List Event) → (run_state_after m
 unfolding run_state_after next_state
 count_after_events m [] = omega arith
 count_after_events m (e ∷ es) = let rest = count_after_events (next_state m e) es in omega arith
+
+pub steps_after_events : (m : RunState) (es : List Event) → (run_state_after m es).steps ≡ m.steps + length es
+unfolding run_state_after next_state
+steps_after_events m [] = omega arith
+steps_after_events m (e ∷ es) = let rest = steps_after_events (next_state m e) es in omega arith
+
+pub variant_after_events : (m : RunState) (es : List Event) → (run_state_after m es).variant ≡ m.variant
+unfolding run_state_after next_state
+variant_after_events m [] = refl
+variant_after_events m (e ∷ es) = variant_after_events (next_state m e) es
+
+pub made_after_events : (m : RunState) (es : List Event) → is_some m.world ≡ true → is_some (run_state_after m es).world ≡ true
+unfolding run_state_after next_state
+made_after_events m [] made = made
+made_after_events m (e ∷ es) made = made_after_events (next_state m e) es refl
+
+pub kept_after_events : (m : RunState) (es : List Event) → UsualList (length m.mesh) es → IsKept m → IsKept (run_state_after m es)
+unfolding run_state_after UsualList next_state
+kept_after_events m [] usual is = is
+kept_after_events m (e ∷ es) usual is = kept_after_events (next_state m e) es usual.1 (stepped_kept m e usual.0 is)
+
+-- a line that does these events goes by them
+pub events_go : (m : RunState) (es : List Event) (text : List ℕ) → GoesBy m es (On text (with_line_read (run_state_after m es)))
+unfolding GoesBy run_state_after next_state
+events_go m [] text = inl (record { variant = refl; mesh = λ _. refl; world = refl; none = refl; count = refl })
+events_go m (e ∷ es) text = inr (record {
+  variant = variant_after_events m (e ∷ es);
+  mesh = mesh_after_events m (e ∷ es);
+  made = made_after_events (next_state m e) es refl;
+  world = world_after_events m (e ∷ es);
+  count = count_after_events m (e ∷ es);
+})
 
 -- ---- in a state
 
@@ -87,9 +119,6 @@ splits m (suc i) [] finished = refl
 splits m (suc i) (piece ∷ pieces) finished =
     goes_splits m (events_of_piece m piece) (outcome_of_piece m piece) i pieces (λ n. splits n i pieces) finished
 
-take_whole : (k : ℕ) (es : List Event) → k ≡ length es → take k es ≡ es
-take_whole k es same = ap (λ j. take j es) same ∙ ap (take (length es)) (sym (append-nil es)) ∙ take-append_seam es []
-
 follows_reached : (v : Variant) (w : RunText) (es all rest : List Event) → w.verdict ≡ Finished → Follows (opening v) es w → all ≡ es ++ rest → IsReached v w.after all rest
 unfolding NotFull
 follows_reached v w es all rest finished is split =
@@ -97,7 +126,7 @@ follows_reached v w es all rest finished is split =
     let count : w.after.sums.events ≡ length es = omega arith in
     record {
       es = es;
-      world = is.world ∙ ap (run (start v (first_numbers w.after.mesh))) (take_whole (w.after.sums.events - 0) es (omega arith));
+      world = is.world ∙ ap (run (start v (first_numbers w.after.mesh))) (take_all (w.after.sums.events - 0) es (omega arith));
       count = count;
       split = split;
     }
@@ -108,11 +137,6 @@ unfolding events_of_input Splits
 front_reached v input i finished =
     follows_reached v (prefix_of_input v input i) (events_from (opening v) (take i (pieces_of_input input))) (events_of_input v input) _ finished
     (follows (opening v) (take i (pieces_of_input input)) (opening_kept v)) (splits (opening v) i (pieces_of_input input) finished)
-
-next_is : (i : ℕ) (pieces : List Piece) (p : Piece) → slice_get pieces i ≡ Some p → drop i pieces ≡ p ∷ drop (suc i) pieces
-next_is i [] p is = absurd (none-some p is)
-next_is zero (q ∷ qs) p is = ap (λ x. x ∷ qs) (same_Some q p is)
-next_is (suc i) (q ∷ qs) p is = next_is i qs p is
 
 begun : (n : RunState) (p : Piece) (ps : List Piece) → events_from n (p ∷ ps) ≡ events_of_piece n p ++ events_after (outcome_of_piece n p) (λ m. events_from m ps)
 unfolding events_from
@@ -126,7 +150,7 @@ state_reached v n all i k pieces (Some p) is reached =
     let others : List Event = events_after (outcome_of_piece n p) (λ m. events_from m (drop (suc i) pieces)) in
     let parts : es ≡ take k es ++ drop k es = sym (take-append-drop k es) in
     let split : events_from n (drop i pieces) ≡ take k es ++ (drop k es ++ others) =
-    ap (events_from n) (next_is i pieces p is) ∙ begun n p (drop (suc i) pieces) ∙ ap (λ l. l ++ others) parts ∙ append_assoc (take k es) (drop k es) others in
+    ap (events_from n) (drop_from pieces i p is) ∙ begun n p (drop (suc i) pieces) ∙ ap (λ l. l ++ others) parts ∙ append_assoc (take k es) (drop k es) others in
     (drop k es ++ others, reached_more v n all (events_from n (drop i pieces)) (take k es) (drop k es ++ others) split reached)
 
 -- ---- the laws

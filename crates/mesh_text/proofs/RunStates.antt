@@ -107,7 +107,7 @@ given_at_most (Give x d body) (worlds.Full y field) = omega arith
 given_at_most (Give x d body) (Next w world_effect) = omega arith
 given_at_most others o = omega arith
 
-doubled_at_most : (h : WorldEffect) → doubled_in h ≤ 1
+pub doubled_at_most : (h : WorldEffect) → doubled_in h ≤ 1
 doubled_at_most (CopyDoubled id to true) = omega arith
 doubled_at_most (CopyDoubled id to false) = omega arith
 doubled_at_most others = omega arith

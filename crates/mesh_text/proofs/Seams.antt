@@ -3,10 +3,11 @@ use Rattle.std.proofs.Common.{◌≡◌, ℕ, ◌≤◌, Bool, true, false, cond
 use Rattle.std.specs.Prelude.{nat_lt}
 use Rattle.std.specs.List.{join_with_byte, onto_first}
 use Rattle.std.proofs.lemmas.Bool.{ltb-true}
-use Rattle.std.proofs.lemmas.List.Splits.{length-slice_split, join_with_byte-slice_split}
+use Rattle.std.proofs.lemmas.List.Splits.{join_with_byte-slice_split}
 use Rattle.std.proofs.Math.Seq.{take_all}
 use Rattle.mesh_base.specs.declared.limits.TheConstants.{LONGEST_INPUT}
 use Rattle.mesh_base.specs.Parts.{parts}
+use Rattle.mesh_base.proofs.Lemmas.Lists.{some_parts}
 use Rattle.mesh_grammar.specs.Lines.{complete, complete_parts}
 use Rattle.mesh_io.specs.NextLines.{schedule_limits}
 use Rattle.mesh_shell.specs.Pieces.{Piece, piece_of, pieces_of}
@@ -17,9 +18,6 @@ use Rattle.mesh_text.specs.declared.verdict.Verdict.TheVariants.{Finished}
 use Rattle.mesh_text.specs.Laws.{RunGoesOn}
 
 -- ---- parts
-
-some_parts : (bytes : List ℕ) → 1 ≤ length (parts 10 bytes)
-some_parts bytes = omega (arith, length-slice_split (λ b. eqb b 10) bytes)
 
 -- the last part of the one goes on as the first of the other
 glue : List (List ℕ) → List (List ℕ) → List (List ℕ)
@@ -58,8 +56,8 @@ split_glue true x ls rs whole some more is = ap (λ l. [] ∷ l) is ∙ sym (glu
 split_glue false x ls rs whole some more is = ap (onto_first x) is ∙ sym (glue_onto x ls rs some more)
 
 parts_glue : (a b : List ℕ) → parts 10 (a ++ b) ≡ glue (parts 10 a) (parts 10 b)
-parts_glue [] b = sym (glue_none (parts 10 b) (some_parts b))
-parts_glue (x ∷ xs) b = split_glue (eqb x 10) x (parts 10 xs) (parts 10 b) (parts 10 (xs ++ b)) (some_parts xs) (some_parts b) (parts_glue xs b)
+parts_glue [] b = sym (glue_none (parts 10 b) (some_parts 10 b))
+parts_glue (x ∷ xs) b = split_glue (eqb x 10) x (parts 10 xs) (parts 10 b) (parts 10 (xs ++ b)) (some_parts 10 xs) (some_parts 10 b) (parts_glue xs b)
 
 -- the last part is empty
 EndsEmpty : List (List ℕ) → Type 0
@@ -99,11 +97,11 @@ complete_glue (l ∷ m ∷ ls) rs some more empty =
 -- what is complete after complete lines
 pub complete_seam : (a b : List ℕ) → complete a ≡ a → complete (a ++ b) ≡ a ++ complete b
 complete_seam a b whole =
-    ap complete_parts (parts_glue a b) ∙ complete_glue (parts 10 a) (parts 10 b) (some_parts a) (some_parts b) (complete_ends a whole) ∙ ap (λ l. l ++ complete b) whole
+    ap complete_parts (parts_glue a b) ∙ complete_glue (parts 10 a) (parts 10 b) (some_parts 10 a) (some_parts 10 b) (complete_ends a whole) ∙ ap (λ l. l ++ complete b) whole
 
 -- ---- pieces
 
-first_piece : (l : List ℕ) (ls : List (List ℕ)) → 1 ≤ length ls → pieces_of schedule_limits false (l ∷ ls) ≡ piece_of schedule_limits l ∷ pieces_of schedule_limits false ls
+pub first_piece : (l : List ℕ) (ls : List (List ℕ)) → 1 ≤ length ls → pieces_of schedule_limits false (l ∷ ls) ≡ piece_of schedule_limits l ∷ pieces_of schedule_limits false ls
 unfolding pieces_of
 first_piece l [] some = absurd (omega arith)
 first_piece l (m ∷ ls) some = refl
@@ -127,7 +125,7 @@ pieces_seam : (a b : List ℕ) → complete a ≡ a → length (a ++ b) ≤ LONG
 pieces_seam a b whole few =
     let both = length-append a b in
     short_pieces (a ++ b) few ∙ ap (pieces_of schedule_limits false) (parts_glue a b)
-    ∙ pieces_glue (parts 10 a) (parts 10 b) (some_parts a) (some_parts b) (complete_ends a whole)
+    ∙ pieces_glue (parts 10 a) (parts 10 b) (some_parts 10 a) (some_parts 10 b) (complete_ends a whole)
     ∙ sym (ap₂ (λ ps qs. ps ++ qs) (short_pieces a (omega arith)) (short_pieces b (omega arith)))
 
 -- ---- the run

@@ -1,9 +1,8 @@
 -- A list joins those beside a queue: of a datum that is given, and of a copy that is heard.
 use Rattle.std.proofs.Common.{◌≡◌, ℕ, ◌<◌, Bool, true, false, ◌==◌, cond, List, [], ◌∷◌, ◌++◌, map, length, Option, Some, None, refl, sym, ap, subst, ◌∙◌, arith}
 use Rattle.std.specs.Prelude.{slice_get, slice_set, reverse}
-use Rattle.std.specs.List.{AllByRecursion}
 use Rattle.std.specs.Global.{Vec}
-use Rattle.std.proofs.lemmas.List.{length-set}
+use Rattle.std.proofs.lemmas.List.{length-set, map_push}
 use Rattle.std.proofs.lemmas.Option.{none-some, same_Some}
 use Rattle.mesh_base.specs.Meshes.{Nodes}
 use Rattle.mesh_base.specs.declared.events.Done.{Done}
@@ -17,11 +16,11 @@ use Rattle.mesh_meaning.specs.Answers.{outcome_in}
 use Rattle.mesh_meaning.specs.Events.{node_of}
 use Rattle.mesh_meaning.specs.Packets.{copy_in}
 use Rattle.mesh_radio.specs.Copies as radios
-use Rattle.mesh_world.proofs.Arrivals.{map-push}
 use Rattle.mesh_world.proofs.Frames.{each_set}
 use Rattle.mesh_world.specs.Seen.{WorldSeen, IsSoundWorld}
 use Rattle.mesh_world.specs.Steps.{IsDone}
 use Rattle.mesh_model.specs.Kept.{KeptLists, lists_after, walked_by, with_item}
+use Rattle.mesh_model.proofs.Steps.{found_honest}
 use Rattle.mesh_trail.specs.Lists.{IsPushed, IsRoomed, row}
 use Rattle.mesh_trail.specs.Casts.{list_of}
 use Rattle.mesh_trail.specs.Steps.{hears, idles}
@@ -46,7 +45,7 @@ joined e old new nodes now casts x l later sound next is below p t =
       agrees = record {
         entries = λ z d. ap (λ (k : KeptLists). k.entries z d) is ∙ still_at (turned_row d) nodes x p.now z there (ap (λ (v : Vec (List ℕ)). reverse (row v.items d)) p.entries ∙ ap (turned_row d) (sym p.there));
         queues = λ z. ap (λ (k : KeptLists). k.queues z) is
-            ∙ changed_so turned_queue nodes x p.now (map reverse (queue_at nodes x) ++ reverse l ∷ []) z there (ap (λ o. turned_queue o ++ reverse l ∷ []) p.there ∙ sym (map-push reverse ((p.node).queue).items l) ∙ ap (map reverse) (sym p.queue));
+            ∙ changed_so turned_queue nodes x p.now (map reverse (queue_at nodes x) ++ reverse l ∷ []) z there (ap (λ o. turned_queue o ++ reverse l ∷ []) p.there ∙ sym (map_push reverse ((p.node).queue).items l) ∙ ap (map reverse) (sym p.queue));
         flying = f.lists;
       };
       count = length-set nodes x p.now;
@@ -110,17 +109,9 @@ none_shown mesh (g ∷ gs) id is = by (g.id == id) is (none_shown mesh gs id)
     by true is rest = absurd (none-some g (sym is))
     by false is rest = rest is
 
-found_in : (P : Copy → Type 0) (cs : List Copy) (id : ℕ) (c : Copy) → AllByRecursion P cs → find_copy cs id ≡ Some c → P c
-found_in P [] id c all is = absurd (none-some c is)
-found_in P (b ∷ cs) id c all is = by (b.id == id) is (found_in P cs id c all.1)
-  where
-    by : (t : Bool) → cond t (Some b) (find_copy cs id) ≡ Some c → (find_copy cs id ≡ Some c → P c) → P c
-    by true is rest = subst P (same_Some b c is) all.0
-    by false is rest = rest is
-
 pub receiver_below : (w : WorldSeen) (id : ℕ) (c : Copy) → IsSoundWorld w → find_copy (w.world).flying id ≡ Some c → c.to < length w.mesh
 receiver_below w id c s is =
-    let t : IsCopyInMesh (length (w.world).nodes) c = found_in (IsCopyInMesh (length (w.world).nodes)) (w.world).flying id c (s.invariant).in_mesh.flying is in
+    let t : IsCopyInMesh (length (w.world).nodes) c = found_honest (IsCopyInMesh (length (w.world).nodes)) (w.world).flying id c (s.invariant).in_mesh.flying is in
     let count = s.count in let l = t.1 in omega arith
 
 pub none_idle : (w : World) (id : ℕ) → find_copy w.flying id ≡ None → step w (Deliver id) ≡ Idle

@@ -3,13 +3,12 @@ use Rattle.std.proofs.Common.{◌≡◌, ℕ, zero, suc, ◌+◌, ◌<◌, ◌�
 use Rattle.std.specs.Prelude.{slice_get, slice_set, reverse}
 use Rattle.std.specs.FinMap as maps
 use Rattle.std.specs.Ordering.{nat_cmp}
-use Rattle.std.proofs.lemmas.Bool.{eqb-true}
+use Rattle.std.proofs.lemmas.Bool.{eqb-true, and_parts}
 use Rattle.std.proofs.lemmas.List.{reverse-reverse}
 use Rattle.std.proofs.lemmas.Option.{none-some}
 use Rattle.aodv_model.specs.Quality.{is_val}
 use Rattle.aodv_model.specs.declared.entry.Entry.{Entry}
-use Rattle.aodv_model.specs.declared.entry.Flag.{Flag}
-use Rattle.aodv_model.specs.declared.entry.Flag.TheVariants.{Inv, Val}
+use Rattle.aodv_model.proofs.Readings.{valid_flag}
 use Rattle.mesh_model.specs.Trails.{around}
 use Rattle.mesh_model.specs.Walks.{rt_in, table}
 use Rattle.mesh_model.specs.Worlds.{Node}
@@ -42,15 +41,6 @@ put_off true y l rows is = cc
 
 -- ---- a valid entry of one hop
 
-both_true : (a b : Bool) → (a && b) ≡ true → (a ≡ true) × (b ≡ true)
-both_true true true is = (refl, refl)
-both_true true false is = cc
-both_true false b is = cc
-
-val_is : (f : Flag) → is_val f ≡ true → f ≡ Val
-val_is Val is = refl
-val_is Inv is = cc
-
 none_more : (others : List ℕ) (y : ℕ) → length (y ∷ others) ≡ 1 → others ≡ []
 none_more [] y is = refl
 none_more (z ∷ zs) y is = absurd (omega arith)
@@ -61,9 +51,9 @@ row_is w nodes casts x y n m None t at is there known = cc
 row_is w nodes casts x y n None (Some e) t at is there known = absurd (none-some e (sym (maps.get-empty nat_cmp y) ∙ sym (ap (λ o. maps.get (rt_in o) y) is) ∙ there))
 row_is w nodes casts x y n (Some m) (Some e) t at is there known =
     let h : NodeHolds (around t.variant w.world) x m ((kept_lists nodes casts).entries x) ((kept_lists nodes casts).queues x) = (t.holds).nodes x m is in
-    let parts = both_true (is_val e.flag) ((e.hops == 1) && (e.next == y)) known in
-    let others = both_true (e.hops == 1) (e.next == y) parts.1 in
-    let walk : IsEntryWalk (around t.variant w.world) x y e.dsn e.hops e.next (reverse (row (rows_of (slice_get nodes x)) y)) = h.entries y e (sym (ap (λ o. maps.get (rt_in o) y) is) ∙ there) (val_is e.flag parts.0) in
+    let parts = and_parts (is_val e.flag) ((e.hops == 1) && (e.next == y)) known in
+    let others = and_parts (e.hops == 1) (e.next == y) parts.1 in
+    let walk : IsEntryWalk (around t.variant w.world) x y e.dsn e.hops e.next (reverse (row (rows_of (slice_get nodes x)) y)) = h.entries y e (sym (ap (λ o. maps.get (rt_in o) y) is) ∙ there) (valid_flag e.flag parts.0) in
     let one : walk.others ≡ [] = none_more walk.others e.next (walk.long ∙ eqb-true e.hops 1 others.0) in
     let two : reverse (row (n.entries).items y) ≡ x ∷ y ∷ [] = ap (λ o. reverse (row (rows_of o) y)) (sym at) ∙ walk.is ∙ (λ i. x ∷ eqb-true e.next y others.1 i ∷ one i) in
     sym (reverse-reverse (row (n.entries).items y)) ∙ ap reverse two

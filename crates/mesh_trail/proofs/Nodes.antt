@@ -11,7 +11,8 @@ use Rattle.mesh_model.proofs.Lists.{set_other}
 use Rattle.mesh_model.specs.Worlds as worlds
 use Rattle.mesh_model.specs.Worlds.{World, Copy, Event, Outcome, Idle, Link, Cut, Lose, Next, step}
 use Rattle.mesh_base.specs.declared.events.Done.{Done}
-use Rattle.mesh_world.proofs.Frames.{each_get, each_set, set_got}
+use Rattle.mesh_base.proofs.Lemmas.Lists.{each_at}
+use Rattle.mesh_world.proofs.Frames.{each_set, set_got}
 use Rattle.mesh_world.specs.Seen.{WorldSeen, IsSoundWorld}
 use Rattle.mesh_world.specs.Steps.{IsStep}
 use Rattle.mesh_model.specs.Kept.{KeptLists, lists_after, walked_by, changed_at}
@@ -36,7 +37,7 @@ pub node_at : (nodes : List NodeLists) (w : WorldSeen) (casts : List Cast) (x : 
 node_at nodes w casts x n t l is = slice_get_read nodes (length nodes) x n refl (is_there w nodes casts x t l) is
 
 pub rows_at : (nodes : List NodeLists) (w : WorldSeen) (casts : List Cast) (x : ℕ) (n : NodeLists) → AreWalks w nodes casts → slice_get nodes x ≡ Some n → length (n.entries).items ≡ length w.mesh
-rows_at nodes w casts x n t is = each_get (λ (m : NodeLists). length (m.entries).items ≡ length w.mesh) nodes x n t.rows is
+rows_at nodes w casts x n t is = each_at (λ (m : NodeLists). length (m.entries).items ≡ length w.mesh) nodes x n t.rows is
 
 -- ---- one node changed
 

@@ -4,6 +4,7 @@ use Rattle.std.specs.Prelude.{slice_get, slice_set, reverse, if◌then◌else◌
 use Rattle.std.proofs.lemmas.Bool.{eqb-true, eqb-false}
 use Rattle.std.proofs.lemmas.Bool.Decides.{nat_tests}
 use Rattle.std.proofs.lemmas.List.{reverse-append}
+use Rattle.std.proofs.Math.Bool.{and-false}
 use Rattle.std.specs.FinMap as maps
 use Rattle.aodv_model.specs.declared.entry.Entry.{Entry}
 use Rattle.aodv_model.specs.Tables.{Table}
@@ -125,19 +126,15 @@ same_at f q y = by (q == y) refl
     by true is = ap f (eqb-true q y is)
     by false is = refl
 
-and_false : (b : Bool) → (b && false) ≡ false
-and_false true = refl
-and_false false = refl
-
 -- what is said in an entry of the route from y to d
 entry_is : (x y d n h : ℕ) (m : Message) (l : List ℕ) (q : ℕ) (old : List ℕ) (o : Option Entry) → ((e : Entry) → is_announced y m q e ≡ is_route y d n h q e)
     → entry_list x y m l q old o ≡ pick ((q == y) && leads_to y o) ((q == d) && announces y n h o) (x ∷ y ∷ []) (x ∷ l) old
-entry_is x y d n h m l q old None announced = rw (and_false (q == y), and_false (q == d)) refl
+entry_is x y d n h m l q old None announced = rw (and-false (q == y), and-false (q == d)) refl
 entry_is x y d n h m l q old (Some e) announced = ap (λ (b : Bool). pick (is_near y q e) b (x ∷ y ∷ []) (x ∷ l) old) (announced e)
 
 entry_unannounced : (x y : ℕ) (m : Message) (l : List ℕ) (q : ℕ) (old : List ℕ) (o : Option Entry) → ((e : Entry) → is_announced y m q e ≡ false)
     → entry_list x y m l q old o ≡ pick ((q == y) && leads_to y o) false (x ∷ y ∷ []) (x ∷ l) old
-entry_unannounced x y m l q old None announced = rw (and_false (q == y)) refl
+entry_unannounced x y m l q old None announced = rw (and-false (q == y)) refl
 entry_unannounced x y m l q old (Some e) announced = ap (λ (b : Bool). pick (is_near y q e) b (x ∷ y ∷ []) (x ∷ l) old) (announced e)
 
 route_row : (rt : Table) (x y d n h : ℕ) (m : Message) (rows : List (List ℕ)) (l near announced : List ℕ) (q : ℕ) → ((e : Entry) → is_announced y m q e ≡ is_route y d n h q e)

@@ -1,8 +1,8 @@
 -- The lists after a turn.
-use Rattle.std.proofs.Common.{◌≡◌, ℕ, ◌+◌, ◌<◌, ◌≤◌, Bool, true, false, ◌==◌, not, ◌&&◌, List, [], ◌∷◌, ◌++◌, map, drop, length, length-append, Option, Some, None, refl, sym, ap, subst, ◌∙◌, arith}
+use Rattle.std.proofs.Common.{◌≡◌, ℕ, ◌+◌, ◌<◌, ◌≤◌, Bool, true, false, ◌==◌, not, ◌&&◌, List, [], ◌∷◌, map, drop, length, Option, Some, None, refl, sym, ap, subst, ◌∙◌, arith}
 use Rattle.std.specs.Prelude.{slice_get, slice_set, reverse, if◌then◌else◌}
 use Rattle.std.specs.List.{AllByRecursion}
-use Rattle.std.proofs.lemmas.List.{length-set}
+use Rattle.std.proofs.lemmas.List.{length-set, length_push}
 use Rattle.mesh_base.specs.declared.events.Done.{Done}
 use Rattle.mesh_base.specs.declared.events.Done.TheVariants as done
 use Rattle.aodv_model.specs.Tables.{Table}
@@ -34,9 +34,6 @@ use Rattle.mesh_trail.proofs.Sends.{Casts, NodesGo, made_by}
 
 -- ---- room
 
-pair_long : (l : List ℕ) (x : ℕ) → length (l ++ x ∷ []) ≡ length l + 1
-pair_long l x = length-append l (x ∷ [])
-
 own_fits : (x : ℕ) (rows : List (List ℕ)) (room : ℕ) → 1 ≤ room → (cast : Said) → length (sent_list x rows says.Parcel [] cast) ≤ room
 own_fits x rows room one says.Parcel = omega arith
 own_fits x rows room one says.Error = omega arith
@@ -61,11 +58,11 @@ reply_fits rt x y (says.Reply d n h) near announced rows room two a b fits = lea
 heard_fits : (rt : Table) (x y : ℕ) (s : Said) (rows : List (List ℕ)) (l : List ℕ) (hand : Hand) → IsInHand x y s rows l hand → (cast : Said) → length (sent_list x (after_lesson (lesson_of rt y s) hand.near hand.announced rows) s l cast) ≤ hand.room
 heard_fits rt x y s rows l hand r says.Parcel = let two = r.two in omega arith
 heard_fits rt x y s rows l hand r says.Error = let two = r.two in omega arith
-heard_fits rt x y s rows l hand r (says.Request o n h d) = let e = pair_long l x in let more = r.more in omega arith
+heard_fits rt x y s rows l hand r (says.Request o n h d) = let e = length_push l x in let more = r.more in omega arith
 heard_fits rt x y s rows l hand r (says.Reply d n h) =
     let two = r.two in let more = r.more in
     let near : length hand.near ≡ 2 = ap length r.near in
-    let announced : length hand.announced ≡ length l + 1 = ap length r.announced ∙ pair_long l x in
+    let announced : length hand.announced ≡ length l + 1 = ap length r.announced ∙ length_push l x in
     reply_fits rt x y s hand.near hand.announced rows hand.room r.two (omega arith) (omega arith) r.reply
 
 pub room_for : (rt : Table) (x : ℕ) (front : Front) (rows : List (List ℕ)) (l : List ℕ) (hand : Hand) → IsPrepared x front rows l hand → HasRoomFor x front (rows_after rt front hand.near hand.announced rows) l hand.room

@@ -1,5 +1,5 @@
 -- What an event does to the copies in flight and to the number of the next.
-use Rattle.std.proofs.Common.{◌≡◌, ℕ, ◌+◌, ◌<◌, ◌≤◌, List, [], ◌∷◌, ◌++◌, length, refl, ap, sym, subst, ◌∙◌, arith}
+use Rattle.std.proofs.Common.{◌≡◌, ℕ, ◌+◌, ◌<◌, ◌≤◌, List, [], ◌∷◌, ◌++◌, length, refl, sym, subst, ◌∙◌, arith}
 use Rattle.std.specs.Prelude.{⊤}
 use Rattle.std.specs.List.{AllByRecursion}
 use Rattle.aodv_model.specs.Cores.{Item, New, Heard, Message}
@@ -8,6 +8,7 @@ use Rattle.mesh_model.proofs.Cases.{by_cases, copy_case, push_is}
 use Rattle.mesh_model.proofs.MeshSteps.{copies_numbered}
 use Rattle.mesh_model.specs.InMesh.{AreNumbered}
 use Rattle.mesh_model.proofs.Lists.{each_append, each_filter}
+use Rattle.mesh_model.proofs.Copies.{push_next}
 use Rattle.mesh_model.specs.Worlds.{is_parcel, Copy, CopyDoubled, Cut, Deliver, Double, Event, Give, Full, Next, Idle, Link, Lose, Outcome, World, after, copies, copies_of, copies_to, done_by, double_of, find_copy, members_below, push, range, receivers, run, step, with_double, without, without_copy}
 use Rattle.mesh_trail.proofs.Steps.{numbered_low}
 use Rattle.mesh_model.specs.Kept.{KeptLists, after_doubling, copies_in, from_id_on}
@@ -48,9 +49,6 @@ MakesIn w (Next w' h) = (w'.next_copy ≡ w.next_copy + length (copies_in h)) ×
 
 none_more : (n : ℕ) → n ≡ n + 0
 none_more n = omega arith
-
-push_next : (w : World) (x : ℕ) (item : Item) → (push w x item).next_copy ≡ w.next_copy
-push_next w x item = ap (λ (v : World). v.next_copy) (push_is w x item)
 
 abbrev pub IsNoDouble : Event → Type 0
 IsNoDouble (Double id) = ⊥

@@ -14,6 +14,7 @@ use Rattle.mesh_base.specs.declared.events.Item.TheVariants as item
 use Rattle.mesh_base.specs.declared.events.Took.{Took}
 use Rattle.mesh_base.specs.declared.events.Done.{Done}
 use Rattle.mesh_base.specs.declared.events.Done.TheVariants as done
+use Rattle.mesh_base.proofs.Lemmas.Lists.{each_at}
 use Rattle.aodv_model.specs.Cores.{Body, Core}
 use Rattle.aodv_model.specs.Handlers as handlers
 use Rattle.aodv_model.specs.Handlers.{Own, Stored, took, may_send, may_ask}
@@ -47,7 +48,7 @@ use Rattle.mesh_world.specs.declared.act.Unacted.TheVariants as refused
 use Rattle.mesh_world.specs.Seen.{node_in}
 use Rattle.mesh_world.specs.Kept.{Ready, IsKept, IsKeptNode, world_in}
 use Rattle.mesh_world.specs.Noted.{ready_with}
-use Rattle.mesh_world.proofs.Frames.{Ends, Beside, ends_done, ends_idle, ends_full, ends_no_memory, beside, shown_at, each_get, set_back, noted_beside, later, with_same, roomed, began, node_at}
+use Rattle.mesh_world.proofs.Frames.{Ends, Beside, ends_done, ends_idle, ends_full, ends_no_memory, beside, shown_at, set_back, noted_beside, later, with_same, roomed, began, node_at}
 use Rattle.std.specs.Vec.{with_item}
 use Rattle.mesh_world.specs.Parts.{AreKept, IsDoneTo}
 use Rattle.mesh_world.specs.declared.parts.Parts.{Parts}
@@ -62,7 +63,7 @@ stands mesh nodes radio ready steps x n k at =
     subst (λ (size : ℕ). IsNodeInMesh size x (node_in mesh n)) (k.sound).count (((k.sound).invariant).in_mesh.nodes x (node_in mesh n) (shown_at mesh nodes radio x n at))
 
 pub kept_node : (mesh : Nodes) (nodes : List NodeSeen) (radio : RadioState) (ready : Ready) (steps x : ℕ) (n : NodeSeen) → IsKept mesh nodes radio ready steps → slice_get nodes x ≡ Some n → IsKeptNode mesh n
-kept_node mesh nodes radio ready steps x n k at = each_get (IsKeptNode mesh) nodes x n k.each at
+kept_node mesh nodes radio ready steps x n k at = each_at (IsKeptNode mesh) nodes x n k.each at
 
 -- no packet of a world is refused, or names a stranger
 pub readable : (mesh : Nodes) (nodes : List NodeSeen) (radio : RadioState) (ready : Ready) (steps x : ℕ) (n : NodeSeen) → IsKept mesh nodes radio ready steps → slice_get nodes x ≡ Some n → AllByRecursion (IsReadableItem mesh) n.items

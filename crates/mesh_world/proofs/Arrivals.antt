@@ -4,11 +4,13 @@ use Rattle.std.specs.Prelude.{slice_get, slice_set, slice_index_or, is_some, opt
 use Rattle.std.proofs.Math.Seq.{set-get_or}
 use Rattle.std.specs.List.{AllByRecursion}
 use Rattle.std.proofs.lemmas.Option.{same_Some, none-some}
+use Rattle.std.proofs.lemmas.List.{map_push}
 use Rattle.mesh_base.specs.Meshes.{Nodes}
 use Rattle.mesh_base.specs.declared.events.Flying.{Flying}
 use Rattle.mesh_base.specs.declared.events.Item as items
 use Rattle.mesh_base.specs.declared.events.Item.TheVariants as item
 use Rattle.mesh_base.specs.declared.events.Done.TheVariants as done
+use Rattle.mesh_base.proofs.Lemmas.Lists.{set_again}
 use Rattle.aodv_model.specs.Cores.{Body, New, Heard}
 use Rattle.aodv_model.specs.Soundness.{IsDatum, IsMessageInMesh}
 use Rattle.aodv_meaning.specs.Meaning.{meaning}
@@ -19,6 +21,7 @@ use Rattle.mesh_model.specs.Worlds.{World, Copy, Give, Deliver, Lose, Outcome, I
 use Rattle.mesh_model.specs.InMesh.{IsCopyInMesh}
 use Rattle.mesh_model.specs.Choices.{may_turn_in, first_send_in, first_ask_in}
 use Rattle.mesh_model.proofs.Steps.{found_honest}
+use Rattle.mesh_model.proofs.Lists.{each_append}
 use Rattle.mesh_radio.specs.Copies as radios
 use Rattle.mesh_radio.specs.Copies.{held_seen}
 use Rattle.mesh_radio.specs.Radios.{RadioState, without_copy}
@@ -28,7 +31,7 @@ use Rattle.mesh_world.specs.Seen.{node_in}
 use Rattle.mesh_world.specs.Kept.{Ready, IsKept, IsKeptNode, IsReadyFor, world_in}
 use Rattle.mesh_world.specs.declared.steps.StepError.TheVariants as errors
 use Rattle.mesh_world.specs.Noted.{ready_with, with_turn, has_items}
-use Rattle.mesh_world.proofs.Frames.{Ends, Beside, ends_done, ends_idle, ends_no_memory, beside, later, shown_at, noted_beside, map-set, each_set, each_append, set_again, count_of}
+use Rattle.mesh_world.proofs.Frames.{Ends, Beside, ends_done, ends_idle, ends_no_memory, beside, later, shown_at, noted_beside, map-set, each_set, count_of}
 use Rattle.mesh_world.proofs.ReadySets.{noted_ready, noted_by_turn, some_item}
 use Rattle.mesh_world.proofs.Acts.{stands, kept_node}
 
@@ -53,15 +56,11 @@ joined n roomy new i core same size is sound = record {
 pub noted_joined : (mesh : Nodes) (nodes : List NodeSeen) (radio : RadioState) (ready ready' : Ready) (steps x : ℕ) (n new : NodeSeen) (i : items.Item) → IsKept mesh nodes radio ready steps → slice_get nodes x ≡ Some n → Joined n new i → ready' ≡ with_turn ready x → ready' ≡ ready_with ready x new (length mesh)
 noted_joined mesh nodes radio ready ready' steps x n new i k at j is = is ∙ noted_by_turn mesh nodes ready x n new k.sets at j.core (ap has_items j.items ∙ some_item n.items i)
 
-pub map-push : {A B : Type 0} (f : A → B) (xs : List A) (x : A) → map f (xs ++ x ∷ []) ≡ map f xs ++ f x ∷ []
-map-push f [] x = refl
-map-push f (y ∷ ys) x = ap (λ zs. f y ∷ zs) (map-push f ys x)
-
 pushed : (mesh : Nodes) (nodes : List NodeSeen) (radio : RadioState) (x : ℕ) (n new : NodeSeen) (i : items.Item) → slice_get nodes x ≡ Some n → Joined n new i → push (world_in mesh nodes radio) x (item_in mesh i) ≡ world_in mesh (slice_set nodes x new) radio
 unfolding push world_in
 pushed mesh nodes radio x n new i at j =
     let w = world_in mesh nodes radio in
-    let queue : map (item_in mesh) new.items ≡ map (item_in mesh) n.items ++ item_in mesh i ∷ [] = ap (map (item_in mesh)) j.items ∙ map-push (item_in mesh) n.items i in
+    let queue : map (item_in mesh) new.items ≡ map (item_in mesh) n.items ++ item_in mesh i ∷ [] = ap (map (item_in mesh)) j.items ∙ map_push (item_in mesh) n.items i in
     let node : record { core = n.core; queue = map (item_in mesh) n.items ++ item_in mesh i ∷ [] } ≡ node_in mesh new = λ k. record { core = sym j.core k; queue = sym queue k } in
     ap (λ o. with_item w x o (item_in mesh i)) (shown_at mesh nodes radio x n at)
     ∙ (λ k. record w { nodes = (ap (slice_set (map (node_in mesh) nodes) x) node ∙ sym (map-set (node_in mesh) nodes x new)) k })
@@ -103,7 +102,7 @@ found_if : (mesh : Nodes) (b : Bool) (f : Flying) (o : Option Copy) (p : Option 
 found_if mesh true f o p e = refl
 found_if mesh false f o p e = e
 
-find_shown : (mesh : Nodes) (cs : List Flying) (id : ℕ) → worlds.find_copy (map (copy_in mesh) cs) id ≡ option_map (copy_in mesh) (radios.find_copy cs id)
+pub find_shown : (mesh : Nodes) (cs : List Flying) (id : ℕ) → worlds.find_copy (map (copy_in mesh) cs) id ≡ option_map (copy_in mesh) (radios.find_copy cs id)
 find_shown mesh [] id = refl
 find_shown mesh (f ∷ cs) id = found_if mesh (f.id == id) f (worlds.find_copy (map (copy_in mesh) cs) id) (radios.find_copy cs id) (find_shown mesh cs id)
 

@@ -14,6 +14,7 @@ use Rattle.mesh_base.specs.declared.events.Flying.{Flying}
 use Rattle.mesh_base.specs.declared.events.Item as items
 use Rattle.mesh_base.specs.declared.events.Item.TheVariants as item
 use Rattle.mesh_base.specs.declared.events.Done.TheVariants as done
+use Rattle.mesh_base.proofs.Lemmas.Lists.{set_again}
 use Rattle.aodv_meaning.specs.Effects.{item_in}
 use Rattle.aodv_node.specs.Seen.{NodeSeen, IsSoundNode}
 use Rattle.aodv_node.specs.Turned.{IsTaken, hearing}
@@ -26,7 +27,7 @@ use Rattle.mesh_world.specs.Seen.{node_in}
 use Rattle.mesh_world.specs.Kept.{Ready, IsKept, world_in}
 use Rattle.mesh_world.specs.Noted.{ready_with, with_turn, with_or_without, has_items}
 use Rattle.mesh_world.proofs.ReadySets.{least_found, node_here, node_there, waits_in, at_it, at_other, follows}
-use Rattle.mesh_world.proofs.Frames.{Ends, set_again, set_got}
+use Rattle.mesh_world.proofs.Frames.{Ends, set_got}
 use Rattle.mesh_world.proofs.Reactions.{Sends}
 use Rattle.mesh_world.proofs.Acts.{kept_node, act_done, taken_act_result}
 use Rattle.mesh_world.specs.Acts as acts

@@ -25,9 +25,10 @@ use Rattle.aodv_meaning.specs.Meaning.{meaning, in_mesh}
 use Rattle.aodv_node.specs.Seen.{NodeSeen}
 use Rattle.mesh_radio.specs.Radios.{RadioState}
 use Rattle.mesh_meaning.specs.Packets.{IsWrittenItem, IsWrittenCopy, copy_in}
-use Rattle.mesh_model.specs.Accounts.{total, total_below, counts, in_message, in_item, in_store, in_copy, waiting, queued_data, in_flight}
+use Rattle.mesh_model.specs.Accounts.{total, total_below, in_message, in_item, in_store, in_copy, waiting, queued_data, in_flight}
 use Rattle.mesh_world.specs.Seen.{node_in}
 use Rattle.mesh_model.specs.Accounts.{any}
+use Rattle.mesh_model.proofs.Totals.{total_below_same, all_count}
 use Rattle.mesh_world.specs.Kept.{world_in}
 use Rattle.mesh_world.specs.Counted.{has_datum, one_if, waiting_for, waiting_at, queued_in, flying_in, AreCounted}
 
@@ -73,10 +74,6 @@ total_rise (suc m) i f le = elim (cases_eq i (suc m)) [
   | inl same ↦ subst (λ n. total_below i f ≤ total_below n f) same (omega arith)
   | inr ne ↦ (let before : total_below i f ≤ total_below m f = total_rise m i f (omega arith) in omega arith)
 ]
-
-pub total_same : (m : ℕ) (f g : ℕ → ℕ) → ((q : ℕ) → f q ≡ g q) → total_below m f ≡ total_below m g
-total_same zero f g same = refl
-total_same (suc m) f g same = let here : f m ≡ g m = same m in let before : total_below m f ≡ total_below m g = total_same m f g same in omega arith
 
 -- ---- the store of a node
 
@@ -175,14 +172,10 @@ items_count : (mesh : Nodes) (x : ℕ) (items : List Item) → AllByRecursion (I
 unfolding queued_in
 items_count mesh x items all = total_map (IsWrittenItem mesh) (item_in mesh) (in_item any x) (λ i. one_if (has_datum i)) items all (item_counts mesh x)
 
-bodies_count : (x d : ℕ) (bs : List Body) → total (counts any x d) bs ≡ length bs
-bodies_count x d [] = refl
-bodies_count x d (b ∷ bs) = let rest : total (counts any x d) bs ≡ length bs = bodies_count x d bs in omega arith
-
 store_counts : (size : ℕ) (n : NodeSeen) → n.size ≡ size → in_store any size (n.core).ip (n.core).store ≡ waiting_at n
 unfolding in_store waiting_at
 store_counts size n same =
-    total_same size _ (waiting_for n) (λ d. bodies_count (n.core).ip d (bodies_in (maps.get (n.core).store d))) ∙ ap (λ k. total_below k (waiting_for n)) (sym same)
+    total_below_same size _ (waiting_for n) (λ d. all_count (n.core).ip d (bodies_in (maps.get (n.core).store d))) ∙ ap (λ k. total_below k (waiting_for n)) (sym same)
 
 module _ (mesh : Nodes) (nodes : List NodeSeen) (radio : RadioState) (are : AreCounted mesh nodes radio) where
   pub waiting_means : sum_by waiting_at nodes ≡ waiting any (world_in mesh nodes radio)

@@ -3,6 +3,7 @@ use Rattle.std.proofs.Common.{◌≡◌, ℕ, ◌<◌, ◌+◌, Bool, true, fals
 use Rattle.std.specs.Prelude.{option_map}
 use Rattle.std.specs.List.{AllByRecursion}
 use Rattle.std.proofs.lemmas.Option.{same_Some}
+use Rattle.std.proofs.lemmas.List.{map_push}
 use Rattle.mesh_base.specs.Meshes.{Nodes}
 use Rattle.mesh_base.specs.declared.events.Flying.{Flying}
 use Rattle.mesh_base.specs.declared.events.Done.TheVariants as done
@@ -13,6 +14,7 @@ use Rattle.mesh_model.specs.Worlds as worlds
 use Rattle.mesh_model.specs.Worlds.{World, Copy, Double, Next, CopyDoubled, at_copy, is_parcel, step}
 use Rattle.mesh_model.specs.Accounts.{any, in_message}
 use Rattle.mesh_model.proofs.Doublings.{doubling_few}
+use Rattle.mesh_model.proofs.Lists.{each_append}
 use Rattle.aodv_wire.specs.Encodes as packets
 use Rattle.mesh_radio.specs.Copies as radios
 use Rattle.mesh_radio.specs.Copies.{held_seen}
@@ -22,9 +24,9 @@ use Rattle.mesh_meaning.specs.Packets.{IsWritten, IsWrittenCopy, copy_in}
 use Rattle.mesh_world.specs.Counted.{one_if}
 use Rattle.mesh_world.specs.Seen.{node_in}
 use Rattle.mesh_world.specs.Kept.{Ready, IsKept, world_in}
-use Rattle.mesh_world.proofs.Frames.{Ends, ends_done, ends_idle, began, beside, later, roomed, each_append}
+use Rattle.mesh_world.proofs.Frames.{Ends, ends_done, ends_idle, began, beside, later, roomed}
 use Rattle.mesh_world.proofs.Counts.{packet_counts}
-use Rattle.mesh_world.proofs.Arrivals.{IsFound, InFlight, map-push, found_seen, none_seen, shown_found, shown_none, in_flight}
+use Rattle.mesh_world.proofs.Arrivals.{IsFound, InFlight, found_seen, none_seen, shown_found, shown_none, in_flight}
 
 pub double_at : (w : World) (id : ℕ) (o : Option Copy) → worlds.find_copy w.flying id ≡ o → step w (Double id) ≡ at_copy o (λ c. Next (worlds.with_double w c) (CopyDoubled w.next_copy c.to (is_parcel c.message)))
 unfolding step
@@ -34,7 +36,7 @@ shown_double : (mesh : Nodes) (nodes : List NodeSeen) (old new : RadioState) (f 
 unfolding world_in
 shown_double mesh nodes old new f is =
     let second : Flying = record f { id = old.next_copy } in
-    (λ i. record { nodes = map (node_in mesh) nodes; links = old.links; ever = old.ever; flying = sym (map-push (copy_in mesh) old.flying second) i; next_copy = old.next_copy + 1 })
+    (λ i. record { nodes = map (node_in mesh) nodes; links = old.links; ever = old.ever; flying = sym (map_push (copy_in mesh) old.flying second) i; next_copy = old.next_copy + 1 })
     ∙ ap (world_in mesh nodes) (sym is)
 
 -- ---- a data packet

@@ -1,13 +1,14 @@
 -- What every event keeps.
-use Rattle.std.proofs.Common.{◌≡◌, ℕ, ◌<◌, ◌≤◌, ◌+◌, ◌*◌, ◌^◌, List, [], ◌∷◌, ◌++◌, map, length, Some, Result, Ok, Err, refl, ap, sym, ◌∙◌, subst, zero, suc, arith}
+use Rattle.std.proofs.Common.{◌≡◌, ℕ, ◌<◌, ◌≤◌, ◌+◌, ◌*◌, ◌^◌, List, [], ◌∷◌, map, length, Some, Result, Ok, Err, refl, ap, sym, ◌∙◌, subst, zero, suc, arith}
 use Rattle.std.specs.Prelude.{slice_get, slice_set, slice_index_or, option_map}
 use Rattle.std.specs.List.{AllByRecursion}
-use Rattle.std.proofs.lemmas.Option.{slice_get-map, slice_get_read, same_Some, none-some}
+use Rattle.std.proofs.lemmas.Option.{slice_get-map, slice_get_read, same_Some}
 use Rattle.std.proofs.lemmas.List.{length-map, length-set}
 use Rattle.mesh_base.specs.Meshes.{Nodes}
 use Rattle.mesh_base.specs.declared.events.Full.{Full as Counter}
 use Rattle.mesh_base.specs.declared.events.Done.{Done}
 use Rattle.mesh_base.specs.declared.events.Done.TheVariants as done
+use Rattle.mesh_base.proofs.Lemmas.Lists.{each_at, set_again}
 use Rattle.aodv_node.specs.Seen.{NodeSeen}
 use Rattle.mesh_model.specs.Worlds as worlds
 use Rattle.mesh_model.specs.Worlds.{World, Event, Outcome, Idle, step, after}
@@ -169,15 +170,6 @@ each_set P [] i v all h = all
 each_set P (x ∷ xs) zero v all h = (h, all.1)
 each_set P (x ∷ xs) (suc i) v all h = (all.0, each_set P xs i v all.1 h)
 
-pub each_append : {A : Type 0} (P : A → Type 0) (xs ys : List A) → AllByRecursion P xs → AllByRecursion P ys → AllByRecursion P (xs ++ ys)
-each_append P [] ys hx hy = hy
-each_append P (x ∷ xs) ys hx hy = (hx.0, each_append P xs ys hx.1 hy)
-
-pub each_get : {A : Type 0} (P : A → Type 0) (xs : List A) (i : ℕ) (v : A) → AllByRecursion P xs → slice_get xs i ≡ Some v → P v
-each_get P [] i v all e = absurd (none-some v e)
-each_get P (x ∷ xs) zero v all e = subst P (same_Some x v e) all.0
-each_get P (x ∷ xs) (suc i) v all e = each_get P xs i v all.1 e
-
 pub set_there : {A : Type 0} (xs : List A) (i : ℕ) (v : A) → slice_get xs i ≡ Some v → slice_set xs i v ≡ xs
 set_there [] i v is = refl
 set_there (x ∷ xs) zero v is = ap (λ y. y ∷ xs) (sym (same_Some x v is))
@@ -185,11 +177,6 @@ set_there (x ∷ xs) (suc i) v is = ap (λ ys. x ∷ ys) (set_there xs i v is)
 
 pub set_back : {A : Type 0} (xs : List A) (i : ℕ) (old new : A) → slice_get xs i ≡ Some old → new ≡ old → slice_set xs i new ≡ xs
 set_back xs i old new at same = ap (slice_set xs i) same ∙ set_there xs i old at
-
-pub set_again : {A : Type 0} (xs : List A) (i : ℕ) (v u : A) → slice_set (slice_set xs i v) i u ≡ slice_set xs i u
-set_again [] i v u = refl
-set_again (x ∷ xs) zero v u = refl
-set_again (x ∷ xs) (suc i) v u = ap (λ ys. x ∷ ys) (set_again xs i v u)
 
 pub set_got : {A : Type 0} (xs : List A) (i : ℕ) (v : A) → i < length xs → slice_get (slice_set xs i v) i ≡ Some v
 set_got [] i v l = absurd (let m = l in omega arith)
@@ -210,7 +197,7 @@ shown_at mesh nodes radio x n at = slice_get-map (node_in mesh) nodes x ∙ ap (
 
 -- a node's size
 pub size_at : (mesh : Nodes) (nodes : List NodeSeen) (radio : RadioState) (ready : Ready) (steps x : ℕ) (n : NodeSeen) → IsKept mesh nodes radio ready steps → x < length mesh → n ≡ slice_index_or nodes x n → length mesh ≡ n.size
-size_at mesh nodes radio ready steps x n k l is = sym (each_get (IsKeptNode mesh) nodes x n k.each (node_at mesh nodes radio ready steps x n k l is)).size
+size_at mesh nodes radio ready steps x n k l is = sym (each_at (IsKeptNode mesh) nodes x n k.each (node_at mesh nodes radio ready steps x n k l is)).size
 
 -- as many nodes as before
 pub count_set : (mesh : Nodes) (nodes : List NodeSeen) (radio : RadioState) (ready : Ready) (steps x : ℕ) (new : NodeSeen) → IsKept mesh nodes radio ready steps → length (slice_set nodes x new) ≡ length mesh

@@ -17,6 +17,7 @@ use Rattle.aodv_meaning.specs.Sent.{IsPacket}
 use Rattle.aodv_node.specs.Seen.{NodeSeen}
 use Rattle.mesh_model.specs.Worlds.{range, linked_below, members_below, receivers, copies, copies_of, done_by}
 use Rattle.mesh_model.proofs.MeshSteps.{range_has}
+use Rattle.mesh_model.proofs.Lists.{each_append}
 use Rattle.mesh_radio.specs.Copies as radio
 use Rattle.mesh_radio.specs.Radios.{RadioState, with_copies}
 use Rattle.mesh_meaning.specs.Packets.{IsWrittenCopy, copy_in}
@@ -26,7 +27,7 @@ use Rattle.mesh_world.specs.Kept.{Ready, IsKept, IsKeptNode, world_in}
 use Rattle.mesh_world.specs.Noted.{ready_with}
 use Rattle.mesh_world.specs.Parts.{near_receivers}
 use Rattle.mesh_world.proofs.Receivers.{reached_near}
-use Rattle.mesh_world.proofs.Frames.{Beside, map-set, each_set, each_append, count_of}
+use Rattle.mesh_world.proofs.Frames.{Beside, map-set, each_set, count_of}
 use Rattle.mesh_world.proofs.Casts.{Flies, flies, flights_length}
 use Rattle.mesh_world.proofs.ReadySets.{noted_ready}
 

@@ -1,17 +1,18 @@
 -- The kept sets of nodes follow the nodes.
-use Rattle.std.proofs.Common.{◌≡◌, ◌≢◌, ◌↔◌, ℕ, zero, suc, ◌+◌, ◌<◌, ◌≤◌, Bool, true, false, not, ◌&&◌, ◌||◌, ◌==◌, nat_lt, List, [], ◌∷◌, ◌++◌, length, take, map, get_or, Some, None, refl, ap, sym, subst, ◌∙◌, arith, inl, inr}
+use Rattle.std.proofs.Common.{◌≡◌, ◌≢◌, ◌↔◌, ℕ, zero, suc, ◌+◌, ◌<◌, ◌≤◌, Bool, true, false, not, ◌&&◌, ◌||◌, nat_lt, List, [], ◌∷◌, ◌++◌, length, take, map, get_or, Some, None, refl, ap, sym, subst, ◌∙◌, arith, inl, inr, eq-eqb}
 use Rattle.std.specs.Prelude.{if◌then◌else◌, is_some, option_map, slice_get, slice_set, IsTrue}
 use Rattle.std.specs.List.{AllByRecursion}
 use Rattle.std.specs.Ordering.{nat_cmp}
 use Rattle.std.specs.FinMap as maps
 use Rattle.std.specs.FinSet as sets
 use Rattle.std.specs.Cmp.{nat_cmp_total, unsigned_tied}
-use Rattle.std.proofs.lemmas.Bool.{cases_lt, cases_eq, le-ltb, lt-ltb, eqb-true, eqb-false}
+use Rattle.std.proofs.lemmas.Bool.{cases_lt, cases_eq, le-ltb, lt-ltb, ne_eqb}
 use Rattle.std.proofs.lemmas.Option.{slice_get-map, slice_get-get_or}
 use Rattle.std.proofs.lemmas.List.{take_more, take_all, length-take-le}
 use Rattle.mesh_base.specs.Members.{NodeIds}
 use Rattle.mesh_base.specs.Meshes.{Nodes}
 use Rattle.mesh_base.specs.declared.events.Item.{Item}
+use Rattle.mesh_base.proofs.Lemmas.Lists.{last_at}
 use Rattle.aodv_model.specs.Tables.{in_vD}
 use Rattle.aodv_model.specs.Cores.{Core, Store, bodies_in, needs_in, has_data, in_qD}
 use Rattle.aodv_model.specs.Handlers.{may_send, may_ask}
@@ -87,27 +88,13 @@ note_is r n x nodes turns sends asks turns' sends' asks' t s a was et es ea bt b
 
 -- ---- the kept sets follow a node that changed
 
-other_number : (q x : ℕ) → q ≢ x → (q == x) ≡ false
-other_number q x apart = either (q == x) refl
-  where
-    either : (b : Bool) → (q == x) ≡ b → b ≡ false
-    either true e = absurd (apart (eqb-true q x e))
-    either false e = refl
-
-same_number : (x : ℕ) → (x == x) ≡ true
-same_number x = either (x == x) refl
-  where
-    either : (b : Bool) → (x == x) ≡ b → b ≡ true
-    either true e = refl
-    either false e = absurd (eqb-false x x e refl)
-
 pub at_it : (b : Bool) (s : NodeIds) (x : ℕ) → sets.contains (with_or_without b s x) x ≡ b
-at_it true s x = sets.contains-insert nat_cmp_total s x x ∙ ap (λ c. c || sets.contains s x) (unsigned_tied x x ∙ same_number x)
-at_it false s x = sets.contains-remove nat_cmp_total s x x ∙ ap (λ c. not c && sets.contains s x) (unsigned_tied x x ∙ same_number x)
+at_it true s x = sets.contains-insert nat_cmp_total s x x ∙ ap (λ c. c || sets.contains s x) (unsigned_tied x x ∙ eq-eqb x x refl)
+at_it false s x = sets.contains-remove nat_cmp_total s x x ∙ ap (λ c. not c && sets.contains s x) (unsigned_tied x x ∙ eq-eqb x x refl)
 
 pub at_other : (b : Bool) (s : NodeIds) (x q : ℕ) → q ≢ x → sets.contains (with_or_without b s x) q ≡ sets.contains s q
-at_other true s x q apart = sets.contains-insert nat_cmp_total s x q ∙ ap (λ c. c || sets.contains s q) (unsigned_tied q x ∙ other_number q x apart)
-at_other false s x q apart = sets.contains-remove nat_cmp_total s x q ∙ ap (λ c. not c && sets.contains s q) (unsigned_tied q x ∙ other_number q x apart)
+at_other true s x q apart = sets.contains-insert nat_cmp_total s x q ∙ ap (λ c. c || sets.contains s q) (unsigned_tied q x ∙ ne_eqb q x apart)
+at_other false s x q apart = sets.contains-remove nat_cmp_total s x q ∙ ap (λ c. not c && sets.contains s q) (unsigned_tied q x ∙ ne_eqb q x apart)
 
 pub follows : (s : NodeIds) (x : ℕ) (b : Bool) (f f' : ℕ → Bool) → ((q : ℕ) → sets.contains s q ≡ f q) → f' x ≡ b → ((q : ℕ) → q ≢ x → f' q ≡ f q) → (q : ℕ) → sets.contains (with_or_without b s x) q ≡ f' q
 follows s x b f f' is here there q = elim (cases_eq q x) [
@@ -213,10 +200,6 @@ opening_ready mesh nodes all = record {
 
 -- ---- a node more at the end
 
-pushed_here : {A : Type 0} (xs : List A) (x : A) → slice_get (xs ++ x ∷ []) (length xs) ≡ Some x
-pushed_here [] x = refl
-pushed_here (y ∷ xs) x = pushed_here xs x
-
 pushed_there : {A : Type 0} (xs : List A) (x : A) (q : ℕ) → q ≢ length xs → slice_get (xs ++ x ∷ []) q ≡ slice_get xs q
 pushed_there [] x zero apart = absurd (apart refl)
 pushed_there [] x (suc q) apart = refl
@@ -224,7 +207,7 @@ pushed_there (y ∷ xs) x zero apart = refl
 pushed_there (y ∷ xs) x (suc q) apart = pushed_there xs x q (λ e. apart (ap (λ (n : ℕ). suc n) e))
 
 last_here : (mesh : Nodes) (nodes : List NodeSeen) (n : NodeSeen) → slice_get (map (node_in mesh) (nodes ++ n ∷ [])) (length nodes) ≡ Some (node_in mesh n)
-last_here mesh nodes n = slice_get-map (node_in mesh) (nodes ++ n ∷ []) (length nodes) ∙ ap (option_map (node_in mesh)) (pushed_here nodes n)
+last_here mesh nodes n = slice_get-map (node_in mesh) (nodes ++ n ∷ []) (length nodes) ∙ ap (option_map (node_in mesh)) (last_at nodes n)
 
 last_there : (mesh : Nodes) (nodes : List NodeSeen) (n : NodeSeen) (q : ℕ) → q ≢ length nodes → slice_get (map (node_in mesh) (nodes ++ n ∷ [])) q ≡ slice_get (map (node_in mesh) nodes) q
 last_there mesh nodes n q apart =

@@ -10,6 +10,7 @@ use Rattle.mesh_base.specs.declared.events.Flying.{Flying}
 use Rattle.mesh_base.specs.declared.events.Item as items
 use Rattle.mesh_base.specs.declared.events.Item.TheVariants as item
 use Rattle.mesh_base.specs.declared.events.Variant.{Variant}
+use Rattle.mesh_base.proofs.Lemmas.Lists.{each_at}
 use Rattle.aodv_model.specs.declared.entry.Entry.{Entry}
 use Rattle.aodv_model.specs.Tables.{Table}
 use Rattle.aodv_model.specs.Cores.{Message, Pkt, Rreq, Rrep, Rerr}
@@ -38,7 +39,6 @@ use Rattle.mesh_world.specs.Kept.{Ready, IsKept, IsKeptNode, IsReadyFor, world_i
 use Rattle.mesh_world.specs.Restored.{AreNodesOf, AreSoundParts, IsFirstPart}
 use Rattle.mesh_world.specs.declared.restored.Part.{Part}
 use Rattle.mesh_world.specs.declared.restored.Part.TheVariants as parts
-use Rattle.mesh_world.proofs.Frames.{each_get}
 
 -- ---- tables
 
@@ -71,7 +71,7 @@ items_in mesh nodes me (item.New dest body ∷ is) is_mesh some at written = (at
 items_in mesh nodes me (item.Heard from bytes ∷ is) is_mesh some at written =
     ((at.0.0, at.0.1, written_in mesh bytes is_mesh some written.0), items_in mesh nodes me is is_mesh some at.1 written.1)
 
-written_items : (mesh : Nodes) (nodes : List NodeSeen) (is : List items.Item) → AllByRecursion (InItem (Holds claims.Written mesh nodes)) is → AllByRecursion (IsWrittenItem mesh) is
+pub written_items : (mesh : Nodes) (nodes : List NodeSeen) (is : List items.Item) → AllByRecursion (InItem (Holds claims.Written mesh nodes)) is → AllByRecursion (IsWrittenItem mesh) is
 written_items mesh nodes [] written = tt
 written_items mesh nodes (item.New dest body ∷ is) written = (tt, written_items mesh nodes is written.1)
 written_items mesh nodes (item.Heard from bytes ∷ is) written = (written.0, written_items mesh nodes is written.1)
@@ -125,7 +125,7 @@ pub record Given (mesh : Nodes) (v : Variant) (nodes : List NodeSeen) (radio : R
   pub parts : AreSoundParts mesh nodes radio.flying
 
 sound_at : (mesh : Nodes) (v : Variant) (nodes : List NodeSeen) (radio : RadioState) (x : ℕ) (n : NodeSeen) → Given mesh v nodes radio → slice_get nodes x ≡ Some n → IsSoundCore (length mesh) n.core
-sound_at mesh v nodes radio x n g at = subst (λ (k : ℕ). IsSoundCore k n.core) (g.are.each x n at).size (each_get IsSoundNode nodes x n g.each at).sound
+sound_at mesh v nodes radio x n g at = subst (λ (k : ℕ). IsSoundCore k n.core) (g.are.each x n at).size (each_at IsSoundNode nodes x n g.each at).sound
 
 safe_node : (mesh : Nodes) (v : Variant) (nodes : List NodeSeen) (radio : RadioState) (x : ℕ) (n : NodeSeen) → Given mesh v nodes radio → slice_get nodes x ≡ Some n → IsLoopSafeNode (table nodes) (node_in mesh n)
 safe_node mesh v nodes radio x n g at =
@@ -134,21 +134,21 @@ safe_node mesh v nodes radio x n g at =
       numbers = record { own = core.own; entries = core.table.numbers };
       entries = all_backed nodes x n g.parts.backed at;
       queue = honest_items mesh nodes n.items
-          (each_get (λ m. AllByRecursion (InItem (Holds claims.Request mesh nodes)) m.items) nodes x n g.parts.requests.waits at)
-          (each_get (λ m. AllByRecursion (InItem (Holds claims.Reply mesh nodes)) m.items) nodes x n g.parts.replies.waits at);
+          (each_at (λ m. AllByRecursion (InItem (Holds claims.Request mesh nodes)) m.items) nodes x n g.parts.requests.waits at)
+          (each_at (λ m. AllByRecursion (InItem (Holds claims.Reply mesh nodes)) m.items) nodes x n g.parts.replies.waits at);
     }
 
 node_is_in_mesh : (mesh : Nodes) (v : Variant) (nodes : List NodeSeen) (radio : RadioState) (x : ℕ) (n : NodeSeen) → Given mesh v nodes radio → slice_get nodes x ≡ Some n → IsNodeInMesh (length mesh) x (node_in mesh n)
 node_is_in_mesh mesh v nodes radio x n g at =
     let is = g.are.each x n at in
-    let node = each_get IsSoundNode nodes x n g.each at in
+    let node = each_at IsSoundNode nodes x n g.each at in
     record {
       named = is.named;
       core = sound_at mesh v nodes radio x n g at;
       store = subst (λ (k : ℕ). IsStoreInMesh k (n.core).store) is.size node.store;
       queue = items_in mesh nodes x n.items g.is_mesh g.some
           (subst (λ (me : ℕ). AllByRecursion (IsItemAt (length mesh) me) n.items) is.named (subst (λ (k : ℕ). AllByRecursion (IsItemAt k (n.core).ip) n.items) is.size node.each))
-          (each_get (λ m. AllByRecursion (InItem (Holds claims.Written mesh nodes)) m.items) nodes x n g.parts.written.waits at);
+          (each_at (λ m. AllByRecursion (InItem (Holds claims.Written mesh nodes)) m.items) nodes x n g.parts.written.waits at);
     }
 
 -- ---- the world

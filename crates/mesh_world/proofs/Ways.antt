@@ -1,9 +1,8 @@
 -- From next hop to next hop along the nodes of a world.
-use Rattle.std.proofs.Common.{◌≡◌, ◌≢◌, ℕ, zero, suc, ◌+◌, ◌<◌, ◌≤◌, List, [], ◌∷◌, length, Some, None, ap, sym, ◌∙◌, subst, arith}
+use Rattle.std.proofs.Common.{◌≡◌, ◌≢◌, ℕ, ◌+◌, ◌<◌, ◌≤◌, List, [], length, Some, None, ap, sym, ◌∙◌, subst, arith}
 use Rattle.std.specs.Prelude.{slice_get, option_map}
-use Rattle.std.specs.List.{AllByRecursion}
 use Rattle.std.specs.FinMap as maps
-use Rattle.std.proofs.lemmas.Option.{none-some, same_Some, slice_get-map}
+use Rattle.std.proofs.lemmas.Option.{slice_get-map}
 use Rattle.std.proofs.lemmas.List.{length-map}
 use Rattle.mesh_base.specs.Meshes.{Nodes}
 use Rattle.aodv_node.specs.Seen.{NodeSeen}
@@ -16,11 +15,6 @@ use Rattle.mesh_model.proofs.RouteEnds.{IsOn, on_start, on_short, on_below, Ends
 use Rattle.mesh_world.specs.Seen.{node_in}
 use Rattle.mesh_world.specs.Kept.{world_in}
 use Rattle.mesh_world.specs.Ends.{AreOfWorld}
-
-pub holds_at : {X : Type 0} (P : X → Type 0) (xs : List X) (i : ℕ) (x : X) → AllByRecursion P xs → slice_get xs i ≡ Some x → P x
-holds_at P [] i x all is = absurd (none-some x is)
-holds_at P (y ∷ ys) zero x all is = subst P (same_Some y x is) all.0
-holds_at P (y ∷ ys) (suc i) x all is = holds_at P ys i x all.1 is
 
 -- where the nodes are gone along: `at` was come to, in so many hops, in any world of them
 pub record IsAt (nodes : List NodeSeen) (from to at hops : ℕ) : Type 0 where

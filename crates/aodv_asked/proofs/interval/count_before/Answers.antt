@@ -1,7 +1,8 @@
 use Rattle.std.proofs.Common.{ltb, rules, arith}
 use Rattle.std.proofs.lemmas.List.Sorted.{IsPartitionPoint-from_clause, IsPartitionedBy-ltb}
+use Rattle.std.proofs.lemmas.Bool.{ltb-true, ltb-false}
 use Rattle.aodv_asked.specs.Insertions.{interval}
-use Rattle.aodv_asked.proofs.FindLaws.{ends_rise, below_if, from_if}
+use Rattle.aodv_asked.proofs.FindLaws.{ends_rise}
 use Rattle.aodv_asked.proofs.interval.count_before.Goals as goal
 
 pub returns : goal.returns
@@ -10,6 +11,6 @@ returns c =
     let point = IsPartitionPoint-from_clause (λ v. ltb v.last c.args.from) _ _ c.partition_point.ensures.partitioned parted (λ a r q k. search rules) in
     record {
       within = c.partition_point.ensures.bound;
-      before = λ i lt. below_if _ _ (point.0 i (interval 0 0) (omega arith) lt);
-      after = λ i le lt. from_if _ _ (point.1 i (interval 0 0) le lt);
+      before = λ i lt. ltb-true _ _ (point.0 i (interval 0 0) (omega arith) lt);
+      after = λ i le lt. ltb-false _ _ (point.1 i (interval 0 0) le lt);
     }

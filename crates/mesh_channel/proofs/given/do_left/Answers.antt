@@ -5,10 +5,11 @@ use Rattle.mesh_text.specs.Schedule.{RunState}
 use Rattle.mesh_text.specs.Auto.{outcome_of_events}
 use Rattle.mesh_run.specs.Outputs.{says_lines}
 use Rattle.mesh_run.specs.Runs.{IsEventsDone, IsEventsRun, IsLineStopped, line_outcome_at}
+use Rattle.mesh_run.proofs.Chosen.{nothing_more}
 use Rattle.mesh_fates.specs.Channels.{Channel}
 use Rattle.mesh_channel.specs.RunStates.{run_state_of}
 use Rattle.mesh_channel.specs.declared.channeled.Channeled.{Channeled}
-use Rattle.mesh_channel.proofs.Doing.{list_ends, moved_on, moved_channel, moved_point, no_left, left_stops, left_one, left_over, left_goes_on}
+use Rattle.mesh_channel.proofs.Doing.{moved_on, moved_channel, moved_point, no_left, left_stops, left_one, left_over, left_goes_on}
 use Rattle.mesh_channel.proofs.given.do_left.Goals as goal
 
 pub left-preserved : goal.left-preserved
@@ -111,7 +112,7 @@ returns-clause-ran g c =
     let held = g.O.Sink.held c.left.out in
     let none = no_left p.channel.left (option_map event_of c.next_left.result) (ap (option_map event_of) c.in_default.is) c.next_left.ensures.next in
     c.left.invariant.ran held q.point (Ok 0)
-    (subst (λ (n : RunState). IsEventsDone say (outcome_of_events p.point p.channel.left) n held held) (sym (ap (λ (x : Channeled). x.point) c.next_left.ensures.only)) (list_ends say p.point p.channel.left held none))
+    (subst (λ (n : RunState). IsEventsDone say (outcome_of_events p.point p.channel.left) n held held) (sym (ap (λ (x : Channeled). x.point) c.next_left.ensures.only)) (nothing_more say p.point p.channel.left held none))
 
 pub returns-clause-channel : goal.returns-clause-channel
 returns-clause-channel g c =

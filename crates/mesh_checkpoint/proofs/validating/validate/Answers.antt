@@ -2,11 +2,12 @@ use Rattle.std.proofs.Common.{◌≡◌, ◌≢◌, ℕ, ◌+◌, List, [], leng
 use Rattle.std.specs.Int.{w32}
 use Rattle.std.proofs.lemmas.Bool.{eqb-true, eqb-false}
 use Rattle.std.proofs.lemmas.List.{nil_from_length}
+use Rattle.aodv_wire.proofs.Lines.{are_bytes}
 use Rattle.mesh_checkpoint.specs.declared.limits.TheConstants.{LONGEST_BODY}
 use Rattle.mesh_checkpoint.specs.Formats.{number_at}
 use Rattle.mesh_checkpoint.specs.Checkpoint.{body}
 use Rattle.mesh_checkpoint.specs.State.{magic, IsCheckpoint}
-use Rattle.mesh_checkpoint.proofs.State.{are_bytes, read_length, has_length, is_checkpoint, no_checkpoint, left_over, balanced_by, sums_of, few_behind}
+use Rattle.mesh_checkpoint.proofs.State.{read_length, has_length, is_checkpoint, no_checkpoint, left_over, balanced_by, sums_of, few_behind}
 use Rattle.mesh_checkpoint.proofs.validating.validate.Goals as goal
 
 pub returns-in_default-pass_body : goal.returns-in_default-pass_body

@@ -1,6 +1,6 @@
 use Rattle.std.proofs.Common.{◌<◌, length, refl, ap, ◌∙◌, arith}
 use Rattle.mesh_base.specs.Meshes.{Nodes}
-use Rattle.mesh_report.proofs.Copies.{members-few, members-count}
+use Rattle.mesh_base.proofs.Ranks.{members_few, members-one}
 use Rattle.mesh_router.proofs.Logging.{says-fault}
 use Rattle.mesh_router.proofs.Peers.{none_sent, next_sent, next_failed, all_sent, all_counted}
 use Rattle.mesh_router.proofs.casts.send_to_each.Goals as goal
@@ -8,7 +8,7 @@ use Rattle.mesh_router.proofs.casts.send_to_each.Goals as goal
 pub loop-x-init : goal.loop-x-init
 loop-x-init g c = record {
   adds = none_sent c.args.peers.now c.args.packet.now.items c.args.to.now (g.O.Sink.held c.args.out.now, g.L.Link.sent c.args.link.now);
-  count = let few = members-few 0 c.args.to.now in omega arith;
+  count = let few = members_few 0 c.args.to.now in omega arith;
   within = omega arith;
   sink = refl;
   links = refl;
@@ -26,7 +26,7 @@ returns-in_err-send_to-clause-says g c =
 
 pub overflow_add-count : goal.overflow_add-count
 overflow_add-count g c =
-    let few = members-few c.loop-x.start c.args.to.now in
+    let few = members_few c.loop-x.start c.args.to.now in
     let at = c.loop-x.invariant in
     let same = ap (λ (m : Nodes). length m) c.mesh.ensures.mesh in
     omega (arith, at.count, at.within, (c.len-nodes.ensures.is_mesh).few)
@@ -37,7 +37,7 @@ loop-x-preserved g c =
     let at = c.loop-x.invariant in
     let peer = c.requires.peers c.in-Some.x is.1 in
     let below : c.in-Some.x < length c.args.peers.now.mesh = peer.0 in
-    let count = members-count c.in-Some.x c.loop-x.start c.args.to.now is.0 is.1 is.2 in
+    let count = members-one c.in-Some.x c.loop-x.start c.args.to.now is.0 is.1 is.2 in
     let later = c.in_ok-send_to.ensures.causes in
     record {
       adds = next_sent c.args.peers.now c.args.packet.now.items c.args.to.now c.in-Some.x c.loop-x.start _ (g.O.Sink.held c.loop-x.out, g.L.Link.sent c.loop-x.link) _ is.0 is.1 is.2 at.adds c.in_ok-send_to.ensures.says;
@@ -59,7 +59,7 @@ returns-clause-count g c =
 
 pub returns-clause-few : goal.returns-clause-few
 returns-clause-few g c =
-    let few = members-few c.loop-x.start c.args.to.now in
+    let few = members_few c.loop-x.start c.args.to.now in
     let at = c.loop-x.invariant in
     let same = ap (λ (m : Nodes). length m) c.mesh.ensures.mesh in
     omega (arith, at.count, at.within, (c.len-nodes.ensures.is_mesh).few)

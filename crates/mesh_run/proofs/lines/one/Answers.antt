@@ -1,10 +1,10 @@
 use Rattle.std.proofs.Common.{◌≡◌, ◌≤◌, length, inl, Ok, Err, is_some, refl, subst, rules}
 use Rattle.std.proofs.lemmas.Result.{MatchResult-weaker}
 use Rattle.mesh_base.specs.declared.limits.TheConstants.{MOST_NODES}
+use Rattle.mesh_io.proofs.Writing.{Keeps-same}
 use Rattle.mesh_text.specs.Schedule.{RunState, line_of}
 use Rattle.mesh_script.specs.Seen.{accepted_of}
 use Rattle.mesh_run.proofs.Growth.{IsSized, done_grows}
-use Rattle.mesh_run.proofs.Shown.{Keeps-same}
 use Rattle.mesh_run.proofs.Telling.{goes_accepted, stops_accepted, came-refused}
 use Rattle.mesh_run.proofs.Ways.{way_where_read}
 use Rattle.mesh_run.proofs.lines.one.Goals as goal

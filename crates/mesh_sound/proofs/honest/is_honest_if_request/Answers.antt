@@ -1,8 +1,9 @@
 use Rattle.std.proofs.Common.{◌≤◌, length, sym, subst, arith}
 use Rattle.aodv_model.specs.Cores.{Message}
 use Rattle.aodv_wire.specs.declared.message.Message.TheVariants as messages
+use Rattle.aodv_node.proofs.Readings.{means}
 use Rattle.mesh_sound.specs.Claims.{table, IsHonestIfRequest}
-use Rattle.mesh_sound.proofs.Readings.{means, known_in, says, spelled}
+use Rattle.mesh_sound.proofs.Readings.{known_in, says, spelled}
 use Rattle.mesh_sound.proofs.honest.is_honest_if_request.Goals as goal
 
 pub is_honest_request-requires-clause-known : goal.is_honest_request-requires-clause-known

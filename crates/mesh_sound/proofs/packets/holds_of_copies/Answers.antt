@@ -1,7 +1,8 @@
 use Rattle.std.proofs.Common.{refl, sym, ◌∙◌}
+use Rattle.std.proofs.lemmas.Bool.{false≢true}
 use Rattle.mesh_base.specs.Views.{flying_seen}
 use Rattle.mesh_sound.specs.Claims.{Holds, IsReadable}
-use Rattle.mesh_sound.proofs.Items.{different, copies_begin, copy_at, copies_go_on, copies_end}
+use Rattle.mesh_sound.proofs.Items.{copies_begin, copy_at, copies_go_on, copies_end}
 use Rattle.mesh_sound.proofs.packets.holds_of_copies.Goals as goal
 
 pub loop-copy-init : goal.loop-copy-init
@@ -13,8 +14,8 @@ holds-requires-clause-readable c =
 
 pub returns-then-not-holds : goal.returns-then-not-holds
 returns-then-not-holds c = (
-  λ t. absurd (different t),
-  λ all. absurd (different (sym c.if-not-holds.true
+  λ t. absurd (false≢true t),
+  λ all. absurd (false≢true (sym c.if-not-holds.true
       ∙ c.holds.ensures.1 (copy_at (λ f. Holds c.args.claim c.args.mesh.now c.args.nodes.now f.from f.bytes) c.args.radio.now.flying c.loop-copy.start (flying_seen c.in-Some.copy) all c.in-Some.ensures.some))),
 )
 

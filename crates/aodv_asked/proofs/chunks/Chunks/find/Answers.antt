@@ -3,10 +3,11 @@ use Rattle.std.specs.List.{flat_map}
 use Rattle.std.specs.Global.{Vec}
 use Rattle.std.proofs.lemmas.List.Elements.{All-same}
 use Rattle.std.proofs.lemmas.List.Sorted.{IsPartitionPoint-from_clause, IsPartitionedBy-ltb}
+use Rattle.std.proofs.lemmas.Bool.{ltb-true, ltb-false}
 use Rattle.aodv_asked.specs.declared.interval.Interval.{Interval}
 use Rattle.aodv_asked.specs.Intervals.{AreApart}
 use Rattle.aodv_asked.specs.Spots.{position_at, last_in, IsFirstFrom, IsPosition}
-use Rattle.aodv_asked.proofs.FindLaws.{ends_rise, below_if, from_if}
+use Rattle.aodv_asked.proofs.FindLaws.{ends_rise}
 use Rattle.aodv_asked.proofs.ChunkLaws.{listed, lengths, AreFilled, position_within}
 use Rattle.aodv_asked.proofs.ChunkFinds.{chunks_rise, found_in, found_past, inside_if, apart_in}
 use Rattle.aodv_asked.proofs.chunks.Chunks.find.Goals as goal
@@ -22,7 +23,7 @@ returns-then-chunk-len c =
     let point = IsPartitionPoint-from_clause (λ y. ltb (last_in (listed y)) c.args.from) _ _ c.partition_point-chunk.ensures.partitioned parted (λ a r q k. search rules) in
     let k = c.partition_point-chunk.result in
     let all : length xs ≤ k = omega (arith, c.if-chunk-len.true, c.len.ensures, c.as_slice.ensures.len) in
-    let before : (i : ℕ) (e : Vec Interval) → i < length xs → last_in (listed (get_or xs i e)) < c.args.from = λ i e lt. below_if _ _ (point.0 i e (omega arith) (omega arith)) in
+    let before : (i : ℕ) (e : Vec Interval) → i < length xs → last_in (listed (get_or xs i e)) < c.args.from = λ i e lt. ltb-true _ _ (point.0 i e (omega arith) (omega arith)) in
     subst (λ vs. IsPosition vs c.args.from (length vs)) (ap (λ ys. flat_map listed ys) c.as_slice.ensures.value ∙ ap (λ s. s.items) c.self.view_is) (found_past listed xs c.args.from rise before)
 
 pub count_before-offset-requires : goal.count_before-offset-requires
@@ -49,10 +50,10 @@ returns c =
     let x = c.index.result.now in
     let le : k ≤ length xs = c.partition_point-chunk.ensures.bound in
     let lt : k < length xs = omega (arith, le, c.if-chunk-len.false, c.len.ensures, c.as_slice.ensures.len) in
-    let before : (i : ℕ) (e : Vec Interval) → i < k → last_in (listed (get_or xs i e)) < c.args.from = λ i e less. below_if _ _ (point.0 i e (omega arith) less) in
+    let before : (i : ℕ) (e : Vec Interval) → i < k → last_in (listed (get_or xs i e)) < c.args.from = λ i e less. ltb-true _ _ (point.0 i e (omega arith) less) in
     let here : x ≡ get_or xs k x = c.index.ensures ∙ ap (λ ys. get_or ys k x) (sym c.as_slice.ensures.value) in
     let at : IsPosition (listed (get_or xs k x)) c.args.from o = subst (λ vs. IsPosition vs c.args.from o) (c.as_slice-2.ensures.value ∙ ap listed here) c.count_before-offset.ensures in
-    let last : c.args.from ≤ last_in (listed (get_or xs k x)) = from_if _ _ (point.1 k x (omega arith) lt) in
+    let last : c.args.from ≤ last_in (listed (get_or xs k x)) = ltb-false _ _ (point.1 k x (omega arith) lt) in
     let inside = inside_if (listed (get_or xs k x)) c.args.from o at (filled k x lt) last in
     subst (λ s. IsFirstFrom s c.args.from (Some (record { chunk = k; offset = o }))) c.self.view_is
     (subst (λ ys. IsPosition (flat_map listed ys) c.args.from (position_at (lengths listed ys) k o) × (position_at (lengths listed ys) k o < length (flat_map listed ys))) c.as_slice.ensures.value

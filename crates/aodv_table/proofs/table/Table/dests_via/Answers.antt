@@ -1,5 +1,6 @@
 use Rattle.std.proofs.Common.{subst, sym, ◌∙◌, arith, ◌+◌, ◌<◌, ◌≡◌, refl}
-use Rattle.aodv_table.proofs.Searches.{Raised, by_read, valid_below, raised_none, raised_to, raised_one, raised_other, raised_all, raised_room, raised_above, least_past, true_false}
+use Rattle.std.proofs.lemmas.Bool.{true≢false}
+use Rattle.aodv_table.proofs.Searches.{Raised, by_read, valid_below, raised_none, raised_to, raised_one, raised_other, raised_all, raised_room, raised_above, least_past}
 use Rattle.aodv_table.proofs.table.Table.dests_via.Goals as goal
 use Rattle.aodv_table.proofs.table.Table.dests_via.Goals.{in-Some-entry_by+in-Some-inc, in_default-entry_by}
 
@@ -45,7 +46,7 @@ loop-d-preserved g c =
       | in-Some-entry_by+in-Some-inc w ↦
           raised_one rt c.args.next c.in-Some.d w.in-Some-inc.n w.in-Some-entry_by.entry c.loop-d.out c.match-entry_by.out
           (sym w.in-Some-entry_by.is ∙ by_read rt c.in-Some.d c.args.next c.get.result c.entry_by.result c.get.ensures.value c.entry_by.ensures)
-          w.in-Some-inc.ensures.value (λ full. true_false (w.in-Some-inc.ensures.greatest.1 full)) (w.out-is ∙ w.push.ensures.map) here
+          w.in-Some-inc.ensures.value (λ full. true≢false (w.in-Some-inc.ensures.greatest.1 full)) (w.out-is ∙ w.push.ensures.map) here
       | in_default-entry_by w ↦
           subst (Raised rt c.args.next (c.in-Some.d + 1)) (sym w.out-is)
           (raised_other rt c.args.next c.in-Some.d c.loop-d.out (sym w.in_default-entry_by.is ∙ by_read rt c.in-Some.d c.args.next c.get.result c.entry_by.result c.get.ensures.value c.entry_by.ensures) here)
