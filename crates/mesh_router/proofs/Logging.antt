@@ -4,12 +4,11 @@ use Rattle.std.specs.Io.KnownBytes.{Appends}
 use Rattle.std.specs.Result.{IsErr}
 use Rattle.mesh_io.specs.Puts.{AppendsPrefix}
 use Rattle.mesh_io.proofs.Writing.{Appends-none}
-use Rattle.mesh_io.proofs.Causes.{Rose-after}
 use Rattle.mesh_link.specs.Datagrams.{Datagram}
 use Rattle.mesh_router.specs.declared.stop.Stop.{Stop}
 use Rattle.mesh_router.specs.Logs.{Log, Byte, Sent, nothing, text_log, followed_by, text_of, sent_of}
 use Rattle.mesh_router.specs.Joins.{sends-none, adds-none, adds-join}
-use Rattle.mesh_router.specs.Outputs.{Outputs, SendsAll, Adds, AddsPrefix, Says, HasCauses}
+use Rattle.mesh_router.specs.Outputs.{Outputs, SendsAll, Adds, AddsPrefix, Says}
 
 -- ---- a log
 
@@ -114,17 +113,4 @@ prefix-unsent a b s t text others same p = record {
   rest = others;
   whole = refl;
   adds = adds-text a b s t text same p;
-}
-
--- ---- causes
-
--- the causes of what is done later
-pub causes-join : {T : Type 0} (a b c d e f : ℕ) (r : Result T Stop) → b ≡ a → e ≡ d → HasCauses b c e f r → HasCauses a c d f r
-causes-join a b c d e f r p q h = record {
-  sink_later = (let up = h.sink_later in omega arith);
-  link_later = (let up = h.link_later in omega arith);
-  write = λ is. (let rose = h.write is in omega arith);
-  send = λ is. (let rose = h.send is in omega arith);
-  no_write = λ is. h.no_write is ∙ p;
-  no_send = λ is. h.no_send is ∙ q;
 }
