@@ -124,11 +124,11 @@ class Later:
         with told(Unwritten, name):
             self.number = os.open(name, os.O_WRONLY | os.O_CREAT, 0o666)
 
-    def write(self, text: str) -> None:
+    def write(self, data: bytes) -> None:
         with told(Unwritten, self.name):
             with contextlib.suppress(OSError):  # a file of another kind has no length
                 os.ftruncate(self.number, 0)
-            write_all(self.number, text.encode())
+            write_all(self.number, data)
 
     def __enter__(self) -> Later:
         return self
