@@ -104,10 +104,15 @@ class Progress:
 
 
 def read_bytes(name: str) -> bytes:
-    """All of a file, or with - of standard input."""
-    with told(Unread, "standard input" if name == "-" else name):
-        with open(INPUT if name == "-" else name, "rb", closefd=name != "-") as file:
-            return file.read()
+    """All of a file."""
+    with told(Unread, name), open(name, "rb") as file:
+        return file.read()
+
+
+def read_input() -> bytes:
+    """All of standard input."""
+    with told(Unread, "standard input"), open(INPUT, "rb", closefd=False) as file:
+        return file.read()
 
 
 def write_all(number: int, data: bytes) -> None:
