@@ -76,9 +76,14 @@ def one_line(text: str) -> str:
     return "".join(it if it.isprintable() else ascii(it)[1:-1] for it in text)
 
 
-def say(name: str, text: str) -> None:
+def note(text: str, end: str = "\n") -> None:
+    """Writes a line to standard error, if that takes it."""
     with contextlib.suppress(OSError):
-        print(f"{name}: {one_line(text)}", file=sys.stderr, flush=True)
+        print(text, end=end, file=sys.stderr, flush=True)
+
+
+def say(name: str, text: str) -> None:
+    note(f"{name}: {one_line(text)}")
 
 
 class Progress:
@@ -93,11 +98,11 @@ class Progress:
     def step(self) -> None:
         self.done += 1
         if self.shows:
-            print(f"{self.done} of {self.of} \r", end="", file=sys.stderr, flush=True)
+            note(f"{self.done} of {self.of} ", end="\r")
 
     def __exit__(self, *_: Any) -> None:
         if self.shows:
-            print(f"{'':{2 * len(str(self.of)) + 5}}\r", end="", file=sys.stderr, flush=True)
+            note(" " * (2 * len(str(self.of)) + 5), end="\r")
 
 
 # ---- files
