@@ -281,7 +281,7 @@ def _drop(number: int) -> None:
 
 
 def begin() -> None:
-    """Until `main` an interrupt ends the script without a word: its modules are read meanwhile."""
+    """Before and behind `main` an interrupt ends the script without a word: before it its modules are read."""
     if signal.getsignal(signal.SIGINT) is signal.default_int_handler:
         signal.signal(signal.SIGINT, signal.SIG_DFL)
 
@@ -294,6 +294,15 @@ def _where(why: BaseException) -> str:
     return f"{os.path.basename(trace.tb_frame.f_code.co_filename)}, line {trace.tb_lineno}" if trace else "nowhere"
 
 
+def _end(name: str, status: int, why: str) -> int:
+    """What a script has written before stands before the word on its end."""
+    if status != WRITE:
+        with contextlib.suppress(Unwritten, OSError):
+            sys.stdout.flush()
+    say(name, why)
+    return status
+
+
 def ended(name: str, does: Callable[[], int]) -> int:
     """The status with which this ends. Where it isn't done it is said why."""
     try:
@@ -303,21 +312,18 @@ def ended(name: str, does: Callable[[], int]) -> int:
     except BrokenPipeError:
         return READER_GONE
     except Ends as why:
-        say(name, str(why))
-        return why.status
+        return _end(name, why.status, str(why))
     except MemoryError:
-        say(name, "there was not enough memory")
-        return MEMORY
+        return _end(name, MEMORY, "there was not enough memory")
     except KeyboardInterrupt:
         return 128 + signal.SIGINT
     except SystemExit as end:
         return end.code if isinstance(end.code, int) else WRONG
     except OSError as why:
-        say(name, f"{why.filename}: {why.strerror}" if why.filename else str(why))
-        return WRONG
+        return _end(name, WRONG, f"{why.filename}: {why.strerror}" if why.filename else str(why))
     except Exception as why:  # pylint: disable=broad-except
-        say(name, f"{type(why).__name__} in {_where(why)}, which should not be: {why}; please report it")
-        return FAULT
+        said = f"{type(why).__name__} in {_where(why)}, which should not be: {why}; please report it"
+        return _end(name, FAULT, said)
 
 
 def main(
@@ -346,6 +352,7 @@ def main(
 
     _open_errors()
     status = ended(name.split()[-1], does)
+    begin()
     # What is left in a buffer couldn't be written, which is told, and is not tried once more.
     for it in (OUTPUT, ERRORS):
         _drop(it)
