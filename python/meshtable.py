@@ -201,7 +201,7 @@ def plot_script(points: Sequence[Point], axis: Optional[str] = None) -> str:
     is_over_nodes, are_numbers = any(it[1] for it in points), all(order_of(it)[1] < math.inf for it in names)
     lines: Dict[str, List[Tuple[float, float, float]]] = collections.defaultdict(list)
     for variant, nodes, mean, half in points:
-        x = float(nodes) if is_over_nodes else float(variant) if are_numbers else names.index(variant)
+        x = float(nodes or 0) if is_over_nodes else float(variant) if are_numbers else names.index(variant)
         lines[variant if is_over_nodes else ""].append((x, mean, half or 0))
     every = [it for line in lines.values() for it in line]
     said = ['set terminal svg size 720,480 background rgb "white"']
