@@ -45,7 +45,8 @@ class Axis:
     def __init__(self, values: Sequence[float], low: float, high: float, bounds: Tuple[float, float], count: int):
         least, most = min(values), max(values)
         room = (most - least) * 0.06 or 1
-        self.least, self.most = max(bounds[0], least - room), min(bounds[1], most + room)
+        # Each of the values lies in the picture, whatever the bounds are.
+        self.least, self.most = min(least, max(bounds[0], least - room)), max(most, min(bounds[1], most + room))
         self.low, self.high, self.count = low, high, count
 
     def at(self, value: float) -> float:
@@ -60,8 +61,13 @@ class Axis:
         return [step * it for it in range(first, math.floor(self.most / step + 1e-9) + 1)]
 
 
+def shown(said: str) -> str:
+    """A text as it stands in a picture: a character that XML doesn't have is shown as one that is none."""
+    return html.escape("".join(it if it.isprintable() else "\N{REPLACEMENT CHARACTER}" for it in said))
+
+
 def text(x: float, y: float, said: str, more: str = "") -> str:
-    return f'<text x="{x:.1f}" y="{y:.1f}"{more}>{html.escape(said)}</text>'
+    return f'<text x="{x:.1f}" y="{y:.1f}"{more}>{shown(said)}</text>'
 
 
 def stroke(x: float, y: float, to_x: float, to_y: float, colour: str, width: float = 1) -> str:
@@ -109,7 +115,8 @@ def drawn(line: Line, x_axis: Axis, y_axis: Axis, aside: float) -> Iterator[str]
 def panel_of(panel: Panel, kinds: List[int], x_axis: Axis, top: float, bottom: float) -> Iterator[str]:
     points = [it for line in panel.lines for it in line.points]
     ends = [mean + sign * half for _, mean, half in points for sign in (-1, 1)]
-    y_axis = Axis([min(max(it, panel.bounds[0]), panel.bounds[1]) for it in ends], bottom, top, panel.bounds, 5)
+    values = [min(max(it, panel.bounds[0]), panel.bounds[1]) for it in ends] + [mean for _, mean, _ in points]
+    y_axis = Axis(values, bottom, top, panel.bounds, 5)
     yield text(LEFT - 70, top - 24, panel.name, f' style="font-size:{LETTERS}px"')
     for value in y_axis.marks():
         yield stroke(LEFT, y_axis.at(value), WIDTH - RIGHT, y_axis.at(value), "#999" if value == 0 else "#ddd")
@@ -146,6 +153,6 @@ def picture(title: str, panels: Sequence[Panel], x_name: str) -> str:
     said += legend(panels[0].lines, top + 18)
     height = top + 18 + (len(panels[0].lines) + 1) // 2 * ROW - 8
     size = f'width="{WIDTH}" height="{height:.0f}" viewBox="0 0 {WIDTH} {height:.0f}"'
-    head = [f'<svg xmlns="http://www.w3.org/2000/svg" {size} role="img">', f"<title>{html.escape(title)}</title>"]
+    head = [f'<svg xmlns="http://www.w3.org/2000/svg" {size} role="img">', f"<title>{shown(title)}</title>"]
     head += [f"<style>{STYLE}</style>", f'<rect width="{WIDTH}" height="{height:.0f}" fill="white"/>']
     return "\n".join([*head, *said, "</svg>"]) + "\n"

@@ -12,11 +12,14 @@ from __future__ import annotations
 
 import collections
 import csv
+import io
 import math
 import re
 import statistics
 import subprocess
 from typing import Dict, Iterable, Iterator, List, NamedTuple, Optional, Sequence, Tuple, Union
+
+from meshscript import Bad
 
 VARIANTS = ["base", "number", "error", "reply"]
 COUNTS = "events idle given delivered waiting queued flying lost copied".split()
@@ -24,16 +27,14 @@ HEAD = ["variant", "nodes", "steps", "seed", "end", *COUNTS, "command"]
 HEAD_LINE = ",".join(HEAD) + "\n"
 DONE = re.compile("done" + "".join(rf" {it} ([0-9]+)" for it in COUNTS[:-1]) + r"(?: copied ([0-9]+))?")
 SHARES = ("delivered", "waiting", "lost")
+# A number as the programs write it: below 2^64.
+NUMBER = "0|[1-9][0-9]{0,19}"
 # Student's t at 97.5 %, from one degree of freedom on.
 T = [12.706, 4.303, 3.182, 2.776, 2.571, 2.447, 2.365, 2.306, 2.262, 2.228, 2.201, 2.179, 2.160, 2.145, 2.131]
 T += [2.120, 2.110, 2.101, 2.093, 2.086, 2.080, 2.074, 2.069, 2.064, 2.060, 2.056, 2.052, 2.048, 2.045, 2.042]
 
 Row = Dict[str, str]
 Point = Tuple[str, str, float, Optional[float]]
-
-
-class Bad(Exception):
-    """A file or a program that isn't as it should be, and why."""
 
 
 class Run(NamedTuple):
@@ -59,6 +60,13 @@ def run_of(row: Row) -> Run:
     return Run(*(row[it] for it in Run._fields))
 
 
+def line_of(row: Row, head: Sequence[str]) -> str:
+    """The line of a row in a file with this head."""
+    line = io.StringIO()
+    csv.DictWriter(line, head, extrasaction="ignore", lineterminator="\n").writerow(row)
+    return line.getvalue()
+
+
 def is_row(cells: Sequence[str]) -> bool:
     if len(cells) != len(HEAD):
         return False
@@ -66,7 +74,7 @@ def is_row(cells: Sequence[str]) -> bool:
     counts = [row[it] for it in COUNTS]
     numbers = [row["seed"], row["nodes"] or "0", row["steps"] or "0", *(counts if row["end"] == "done" else [])]
     is_whole = row["end"] == "done" or (row["end"] in ("bad", "full") and not any(counts))
-    return is_whole and all(re.fullmatch("[0-9]+", it) for it in numbers)
+    return is_whole and all(re.fullmatch(NUMBER, it) for it in numbers)
 
 
 def read(name: str, lines: Union[Iterable[str], None] = None) -> Iterator[Row]:
@@ -186,17 +194,17 @@ def quoted(text: str) -> str:
     return "'" + text.replace("'", "''") + "'"
 
 
-def plot_script(points: Sequence[Point], file: str, axis: Optional[str] = None) -> str:
+def plot_script(points: Sequence[Point], axis: Optional[str] = None) -> str:
     """What gnuplot is told: a line for each variant over the nodes, or without nodes one over the variants. The axis
     of these has that name, if it is given."""
     names = list(dict.fromkeys(it[0] for it in points))
     is_over_nodes, are_numbers = any(it[1] for it in points), all(order_of(it)[1] < math.inf for it in names)
     lines: Dict[str, List[Tuple[float, float, float]]] = collections.defaultdict(list)
     for variant, nodes, mean, half in points:
-        x = float(nodes) if is_over_nodes else float(variant) if are_numbers else names.index(variant)
+        x = float(nodes or 0) if is_over_nodes else float(variant) if are_numbers else names.index(variant)
         lines[variant if is_over_nodes else ""].append((x, mean, half or 0))
     every = [it for line in lines.values() for it in line]
-    said = ['set terminal svg size 720,480 background rgb "white"', f"set output {quoted(file)}"]
+    said = ['set terminal svg size 720,480 background rgb "white"']
     name = axis or ("nodes" if is_over_nodes else "variant")
     said += [f"set xlabel {quoted(name)} noenhanced", "set ylabel 'delivered, % of the data given'"]
     said += [f"set xrange {span(x for x, _, _ in every)}", "set key outside" if is_over_nodes else "unset key"]
@@ -211,6 +219,7 @@ def plot_script(points: Sequence[Point], file: str, axis: Optional[str] = None) 
     return "\n".join(said) + "\n"
 
 
-def plot(points: Sequence[Point], file: str, axis: Optional[str] = None) -> int:
-    """Draws the delivered share by gnuplot; answers its status."""
-    return subprocess.run(["gnuplot"], input=plot_script(points, file, axis), text=True).returncode
+def plot(points: Sequence[Point], axis: Optional[str] = None) -> bytes:
+    """Draws the delivered share by gnuplot; answers the picture, which is empty where it isn't drawn."""
+    drawn = subprocess.run(["gnuplot"], input=plot_script(points, axis).encode(), stdout=subprocess.PIPE)
+    return b"" if drawn.returncode else drawn.stdout

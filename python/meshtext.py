@@ -190,7 +190,8 @@ def decode(data: bytes) -> Packet:
 
 # ---- how a field is written, by its type in the table below
 
-_NUM = "(?:0|[1-9][0-9]*)"
+# A number is below 2^64, and so has at most 20 digits.
+_NUM = "(?:0|[1-9][0-9]{0,19})"
 _PART = "(?:25[0-5]|2[0-4][0-9]|1[0-9][0-9]|[1-9]?[0-9])"
 _ADDR = rf"{_PART}(?:\.{_PART}){{3}}"
 _LIST = f"{_ADDR}(?:,{_ADDR})*"
@@ -229,7 +230,7 @@ _TYPES: Dict[str, Tuple[Any, str, Callable, Callable]] = {
 
 # ---- records
 
-# For each kind of line: what it stands below (nothing, an event, or a line of this kind), how it is written, and
+# For each kind of line: what it stands below (nothing, any event, or a line of this kind), how it is written, and
 # which of its fields it has from the line above it. A field is {its name:its type}.
 _EVENTS = "link cut data turn send ask deliver lose double".split()
 _COUNTS = "events idle given delivered waiting queued flying lost".split()
@@ -258,12 +259,12 @@ _FORMS = (
     ("idle", "event place", "  idle", "node copy"),
     ("took", "event", "  took {what:word} {whom:addr}", "node"),
     ("delivered", "event", "  delivered {originator:addr} {destination:addr} {text:body}", "node"),
-    ("lost", "event", "  lost {sender:addr} {receiver:addr}", "copy packet"),
+    ("lost", "lose", "  lost {sender:addr} {receiver:addr}", "copy packet"),
     ("dropped", "event", "  dropped {originator:addr} {destination:addr} {text:body}", "node copy"),
     ("broken", "event", "  broken {other:addr}", "node"),
     ("sent", "event", "  sent {how:word}{to:to} {packet:hex}", "node"),
     ("copy", "event", "  copy {copy:num} {receiver:addr}", "node packet"),
-    ("heard", "event", "  heard {sender:addr} {receiver:addr}", "copy packet"),
+    ("heard", "deliver", "  heard {sender:addr} {receiver:addr}", "copy packet"),
     ("sn", "show", "  sn {number:num}", "node"),
     ("asked", "show", "  asked {originator:addr} {id:num}", "node"),
     ("entry", "show", f"  entry {{destination:addr}} {_ENTRY} {{precursors:list}}", "node"),
@@ -354,8 +355,8 @@ class Reader:
         return record
 
     def _record_of(self, text: str, is_effect: bool) -> Record:
-        group = "" if not is_effect else _BELOW.get(self._head.kind, "none") if self._head else "none"
-        for kind in _KINDS.get((group, (text.split() or [""])[0]), ()):
+        word = (text.split() or [""])[0]
+        for kind in (it for group in self._groups(is_effect) for it in _KINDS.get((group, word), ())):
             try:
                 if record := kind.read(text):
                     return record
@@ -363,6 +364,13 @@ class Reader:
                 raise NotAText(self.line, f"{why}: {text[:80]!r}") from None
         place = f" below {str(self._head)[:80]!r}" if is_effect and self._head else ""
         raise NotAText(self.line, f"no line of a text{place}: {text[:80]!r}")
+
+    def _groups(self, is_effect: bool) -> Iterable[str]:
+        """What a line stands below: nothing, or the kind of the line above it and the group of that."""
+        if not is_effect:
+            return [""]
+        head = self._head.kind if self._head else ""
+        return dict.fromkeys(it for it in (_BELOW.get(head, ""), head) if it)
 
     def _fill(self, record: Record, head: Record) -> None:
         for name in record._above:
@@ -389,6 +397,10 @@ def records(lines: Iterable[Union[str, bytes]], part: bool = False) -> Iterator[
 
 
 # ---- a run over pipes
+
+
+# A longer line is refused, a remark too.
+LINE_LIMIT = 600
 
 
 class Ended(Exception):
@@ -455,9 +467,11 @@ class Mesh:
         if self._reader.last or self._child.stdin.closed:
             raise Ended("the run has ended already")
         self._given += 1
-        is_alone = not self._mark or line.split(" ")[0] == "node"
-        self._write(line.encode(errors="surrogateescape") + b"\n")
-        if not line or line[0] == "#":
+        # A remark is answered only where it is too long.
+        is_alone = not self._mark or line.split(" ")[0] == "node" or line[:1] == "#"
+        data = line.encode(errors="surrogateescape")
+        self._write(data + b"\n")
+        if not line or (line[0] == "#" and len(data) <= LINE_LIMIT):
             return []
         if not is_alone:
             self._write(self._mark)

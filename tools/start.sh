@@ -40,7 +40,8 @@ sum_of_sources() {
                 [ ! -d "crates/$it/$part" ] || echo "crates/$it/$part"
             done
         done)
-        find "$@" -type f -print0 | LC_ALL=C sort -z | xargs -0 sha256sum | sha256sum
+        # In a folder of links to a checkout too.
+        find -H "$@" -type f -print0 | LC_ALL=C sort -z | xargs -0 sha256sum | sha256sum
     )
 }
 
@@ -51,7 +52,7 @@ sum_with_program() {
 
 # Whether no source and not the program $1 has changed its status since the last comparison.
 is_untouched() {
-    [ -e "$1.seen" ] && [ -z "$(cd "$top" && find crates.txt HANDLES crates/*/src crates/*/specs \
+    [ -e "$1.seen" ] && [ -z "$(cd "$top" && find -H crates.txt HANDLES crates/*/src crates/*/specs \
         crates/*/proofs "$1" -cnewer "$1.seen" -print -quit 2>&1)" ]
 }
 
@@ -106,6 +107,16 @@ end_with() {
     exit "$1"
 }
 
+# Writes what it reads to standard output: status 6 and a word where that fails, 141 where the reader has gone.
+written() {
+    cat 2>/dev/null
+    wrote=$?
+    case $wrote in
+    0 | 141) return "$wrote" ;;
+    *) end_with 6 "$(meaning_of 6)" ;;
+    esac
+}
+
 # Whether standard output is a pipe whose reader has gone: `tail -f` ends then at once, and writes nothing.
 is_broken_pipe() {
     [ -p /dev/stdout ] || return 1
@@ -115,8 +126,8 @@ is_broken_pipe() {
 
 # What a status other than 0 of the program of this crate means (docs/FORMATS.md).
 meaning_of() {
-    case $crate:$1 in *:3 | *:4 | mesh_explore:9 | mesh_explore:1[01]) set -- "$1${writes:+:$writes}" ;; esac
-    case $crate:$1 in
+    case ${crate-}:$1 in *:3 | *:4 | mesh_explore:9 | mesh_explore:1[01]) set -- "$1${writes:+:$writes}" ;; esac
+    case ${crate-}:$1 in
     *:2) echo "the words are of no form; see $called --help" ;;
     mesh_check:3) echo "a line was refused; the line that is written says which" ;;
     mesh_capture:3) echo "a line was refused; the capture is that of the lines above it" ;;
@@ -186,6 +197,41 @@ tell_progress() {
     done
 }
 
+# Waits for the child, and sets `status` to its own. A signal, which ends a wait early, ends the child, and then
+# `caught` names it. The shell's own word about a child that a signal ended is none for a user.
+await() {
+    caught=
+    for signal in HUP INT QUIT TERM; do
+        # shellcheck disable=SC2064 # child and signal are meant as they are now
+        trap "caught=$signal; kill -s TERM $child 2>/dev/null" "$signal"
+    done
+    wait "$child" 2>/dev/null
+    status=$?
+    while kill -s 0 "$child" 2>/dev/null; do
+        wait "$child" 2>/dev/null
+        status=$?
+    done
+}
+
+# Ends this script by the signal that has ended its child, if one has.
+pass_on() {
+    [ -n "$caught" ] || return 0
+    [ -z "${scratch-}" ] || rm -rf "$scratch"
+    trap - "$caught"
+    kill -s "$caught" $$
+}
+
+# Runs a command, and sets `status` to its own. A signal that ends this script ends the command too, and at once.
+run_to_end() {
+    # A command in the background would read from /dev/null.
+    exec 3<&0
+    "$@" <&3 3<&- &
+    child=$!
+    exec 3<&-
+    await
+    pass_on
+}
+
 # Runs the program, and tells what a status other than 0 means. A signal that ends this script ends the
 # program too.
 run_and_tell() {
@@ -201,23 +247,9 @@ run_and_tell() {
         tell_progress &
         teller=$!
     fi
-    caught=
-    for signal in HUP INT QUIT TERM; do
-        # shellcheck disable=SC2064 # child and signal are meant as they are now
-        trap "caught=$signal; kill -s TERM $child 2>/dev/null" "$signal"
-    done
-    wait "$child"
-    status=$?
-    # A signal ends a wait early.
-    while kill -s 0 "$child" 2>/dev/null; do
-        wait "$child"
-        status=$?
-    done
+    await
     [ -z "$teller" ] || kill "$teller" 2>/dev/null
-    if [ -n "$caught" ]; then
-        trap - "$caught"
-        kill -s "$caught" $$
-    fi
+    pass_on
     [ -z "$holds" ] || write_line
     tell_status
     exit "$status"
@@ -250,8 +282,8 @@ main() {
     crate=$1
     shift
     case ${1-} in
-    --help | -h) forms ;;
-    --version) version ;;
+    --help | -h) forms | written ;;
+    --version) version | written ;;
     *)
         look_at_words "$@"
         start "$crate" "$@"

@@ -6,10 +6,11 @@
 
 An address is given as anything that ipaddress.IPv4Address takes, and returned as an IPv4Address. A call that is refused
 raises Refused; the router is then as it was, except that after MALFORMED and NAMES_STRANGER the packet is gone from the
-inbox. One router is used by one thread at a time. The library is libaodv.so.1 of the file that AODV_LIBRARY names, of
+inbox. A number that has no 32 bits raises ValueError, and the library isn't called. One router is used by one thread at a time. The library is libaodv.so.1 of the file that AODV_LIBRARY names, of
 the repository where this file stands in it, or of the system."""
 import ctypes
 import enum
+import operator
 import os
 from dataclasses import dataclass
 from ipaddress import IPv4Address
@@ -209,6 +210,13 @@ def _load() -> ctypes.CDLL:
 _LIBRARY = _load()
 
 
+def _u32(number: int, name: str) -> int:
+    # ctypes would take any number modulo 2^32.
+    if not 0 <= operator.index(number) < 2**32:
+        raise ValueError(f"{name} is a number from 0 to 4294967295, and not {number}")
+    return number
+
+
 def _numbers(addrs: Iterable[Address]) -> Tuple[ctypes.Array, int]:
     # An array of one at least: its pointer isn't null.
     numbers = [int(IPv4Address(it)) for it in addrs]
@@ -242,6 +250,7 @@ class Router:
     def __init__(self, addrs: Iterable[Address], me: Address, first: int = 1, variant: Variant = Variant.BASE):
         self._handle = _Handle()
         numbers, count = _numbers(addrs)
+        first, variant = _u32(first, "first"), _u32(variant, "variant")
         self._call("aodv_new", numbers, count, int(IPv4Address(me)), first, variant)
 
     def _call(self, name: str, *words) -> None:
@@ -336,5 +345,5 @@ class Router:
     def seen(self, originator: Address, number: int) -> bool:
         """Whether an originator's request of this id was seen."""
         seen = BOOL()
-        self._call("aodv_seen", int(IPv4Address(originator)), number, seen)
+        self._call("aodv_seen", int(IPv4Address(originator)), _u32(number, "number"), seen)
         return seen.value
