@@ -28,6 +28,10 @@ all:
 check:
 	checks/all
 
+# Makes docs/play.html anew, of the proved library.
+play:
+	tools/play
+
 # The start script finds the programs and the scripts around itself, and links are followed to it.
 install: all
 	install -d $(libexec)/programs $(bin) $(man)/man1 $(man)/man5 $(doc)/examples/three-routers $(bash) $(zsh)
@@ -73,4 +77,4 @@ uninstall:
 	rm -rf $(ns3)
 	[ ! -d $(share)/mesh ] || rmdir $(share)/mesh 2>/dev/null || :
 
-.PHONY: all check install uninstall
+.PHONY: all check play install uninstall
