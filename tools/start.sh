@@ -224,16 +224,40 @@ run_and_tell() {
 }
 
 # Sets `program` to that of the crate $1. Where none is made of the files as they stand it is made first, without
-# a proof. In an installed copy the program lies ready, in the folder programs.
+# a proof. In an installed or unpacked copy the program lies ready, in the folder programs.
 find_program() {
     program=$top/programs/$1
     [ ! -x "$program" ] || return 0
+    if [ -x "$program.unproved" ]; then
+        program=$program.unproved
+        tell_unproved "$1" "see MANIFEST"
+        return
+    fi
     program=$top/crates/$1/out/$1
     ! is_current "$1" "$program" || return 0
     program=$program.unproved
-    is_current "$1" "$program" || "$top/build" --unproved "$1" </dev/null >&2 || exit
-    # A sweep says it once, for all its runs.
-    [ -n "${MESH_IS_TOLD-}" ] || echo "$called: this program is not proved here; $(proving "$1")" >&2
+    is_current "$1" "$program" || make_program "$1" || exit
+    tell_unproved "$1" "$(proving "$1")"
+}
+
+# Makes the program of the crate $1, and says before it what that takes.
+make_program() {
+    [ -n "${MESH_QUIET-}" ] || ! command -v rt >/dev/null ||
+        echo "$called: the first start makes its program, in about a minute; ./build --unproved makes those of all" \
+            "commands at once, in about two minutes on four processors" >&2
+    "$top/build" --unproved "$1" </dev/null >&2
+}
+
+# Says that the program of the crate $1 is not proved, and then $2: at a terminal, and once a day. A file beside the
+# program, or in a folder of the user's, remembers it.
+tell_unproved() {
+    if [ -n "${MESH_QUIET-}" ] || [ ! -t 2 ]; then return; fi
+    for folder in "${program%/*}" "${XDG_CACHE_HOME:-${HOME-}/.cache}/mesh"; do
+        [ -z "$(find "$folder/$1.told" -mtime -1 2>/dev/null)" ] || return 0
+        (mkdir -p "$folder" && : >"$folder/$1.told") 2>/dev/null || continue
+        echo "$called: this program is not proved here; $2 (told once a day; MESH_QUIET=1: never)" >&2
+        return
+    done
 }
 
 # start CRATE WORD..: starts the program of the crate with these words.
