@@ -39,9 +39,9 @@ dist: all
 # The start script finds the programs and the scripts around itself, and links are followed to it.
 install: all
 	install -d "$(libexec)/programs" "$(bin)" "$(man)/man1" "$(man)/man5" "$(doc)/examples/three-routers" "$(bash)" "$(zsh)"
-	for folder in bin python scripts scripts/traces tools view view/live; do install -d "$(libexec)/$$folder" || exit; done
-	for file in bin/* python/*.py scripts/* scripts/traces/* tools/start.sh tools/commands view/index.html view/make view/live/*; do \
-	    [ -d $$file ] || install -m $$([ -x $$file ] && echo 755 || echo 644) $$file "$(libexec)/$$file" || exit; \
+	for folder in bin python python/meshtext python/meshtable python/meshchart scripts scripts/traces tools view view/live; do install -d "$(libexec)/$$folder" || exit; done
+	for file in bin/* python/*.* python/mesh*/*.py python/mesh*/py.typed scripts/* scripts/traces/* tools/start.sh tools/commands view/index.html view/make view/live/*; do \
+	    [ ! -f $$file ] || install -m $$([ -x $$file ] && echo 755 || echo 644) $$file "$(libexec)/$$file" || exit; \
 	done
 	for crate in $(crates); do \
 	    install -m 755 crates/$$crate/out/$$crate "$(libexec)/programs" || exit; \
@@ -64,7 +64,7 @@ install: all
 	install -m 644 include/aodv.h bindings/cpp/aodv.hpp "$(include)"
 	install -m 644 out/libaodv.a "$(lib)"
 	[ ! -e out/libaodv.so.1 ] || { install -m 755 out/libaodv.so.1 "$(lib)" && ln -sf libaodv.so.1 "$(lib)/libaodv.so"; }
-	sed 's|@PREFIX@|$(PREFIX)|; s|@VERSION@|'"$$(cat VERSION)"'|' include/aodv.pc.in >"$(lib)/pkgconfig/aodv.pc"
+	sed 's|@VERSION@|'"$$(cat VERSION)"'|' include/aodv.pc.in >"$(lib)/pkgconfig/aodv.pc"
 	install -m 644 include/aodvConfig.cmake "$(lib)/cmake/aodv"
 	sed 's|@VERSION@|'"$$(cat VERSION)"'|' include/aodvConfigVersion.cmake.in >"$(lib)/cmake/aodv/aodvConfigVersion.cmake"
 	chmod 644 "$(lib)/pkgconfig/aodv.pc" "$(lib)/cmake/aodv/aodvConfigVersion.cmake"
