@@ -40,7 +40,7 @@ dist: all
 install: all
 	install -d "$(libexec)/programs" "$(bin)" "$(man)/man1" "$(man)/man5" "$(doc)/examples/three-routers" "$(bash)" "$(zsh)"
 	for folder in bin python python/meshtext python/meshtable python/meshchart scripts scripts/traces tools view view/live; do install -d "$(libexec)/$$folder" || exit; done
-	for file in bin/* python/*.* python/mesh*/*.py python/mesh*/py.typed scripts/* scripts/traces/* tools/start.sh tools/commands view/index.html view/make view/live/*; do \
+	for file in bin/* python/*.* python/mesh*/*.py python/mesh*/py.typed scripts/* scripts/traces/* tools/start.sh tools/input.sh tools/commands view/index.html view/make view/live/*; do \
 	    [ ! -f $$file ] || install -m $$([ -x $$file ] && echo 755 || echo 644) $$file "$(libexec)/$$file" || exit; \
 	done
 	for crate in $(crates); do \

@@ -158,6 +158,7 @@ tell_status() {
     9 | 10) [ -t 2 ] || [ "$crate${writes:+:}" = mesh_explore: ] || return 0 ;;
     6) ! is_broken_pipe || return 0 ;;
     esac
+    if [ "$status" = 3 ] && [ -t 2 ] && . "$top/tools/input.sh" && tell_refused "$@"; then return; fi
     echo "$called: status $status: $(meaning_of "$status")" >&2
 }
 
@@ -173,8 +174,10 @@ hold_line() {
 write_line() {
     line=$(cat <&5)
     [ -z "$line" ] || printf '%s\n' "$line" | cat 2>/dev/null || status=6
-    [ "$status:$line" != "0:yes nodes 0 edges 0" ] ||
-        echo "$called: no table was shown: the text has no line show ADDR (mesh run writes one for each line show)" >&2
+    case $status:${MESH_QUIET-} in
+    0:) tell_text >&2 ;;
+    *) [ -z "$feeder" ] || kill "$feeder" "$tailer" 2>/dev/null ;;
+    esac
 }
 
 # Tells each second how long the program has run, and in how much memory. What is written next stands in its place.
@@ -191,11 +194,16 @@ tell_progress() {
 run_and_tell() {
     # A program in the background would read from /dev/null.
     exec 3<&0
-    holds=
+    holds='' feeder=''
     if [ "$crate" = mesh_check ] && hold_line; then holds=1; else exec 4>&1 5</dev/null; fi
-    "$program" "$@" <&3 3<&- >&4 4>&- 5<&- &
+    # shellcheck source=tools/input.sh
+    if [ -n "$holds" ] && . "$top/tools/input.sh" && feed; then
+        "$program" "$@" </dev/fd/9 3<&- >&4 4>&- 5<&- 6>&- 8<&- 9>&- &
+    else
+        "$program" "$@" <&3 3<&- >&4 4>&- 5<&- &
+    fi
     child=$!
-    exec 3<&- 4>&-
+    exec 3<&- 4>&- 6>&- 9>&-
     teller=
     if [ -n "$searches" ] && [ -t 2 ]; then
         tell_progress &
@@ -219,7 +227,7 @@ run_and_tell() {
         kill -s "$caught" $$
     fi
     [ -z "$holds" ] || write_line
-    tell_status
+    tell_status "$@"
     exit "$status"
 }
 
@@ -381,7 +389,7 @@ refuse_option() {
     done
     # shellcheck disable=SC2086 # each is a word
     case $1 in
-    --variant*) refuse "$call has no --variant${runs:+: it runs $runs}" ;;
+    --variant | --variant=*) refuse "$call has no --variant${runs:+: it runs $runs}" ;;
     *) refuse "$call has no option $1${options:+: it has $(either $options)}" ;;
     esac
 }
