@@ -69,7 +69,8 @@ install: all
 	sed 's|@VERSION@|'"$$(cat VERSION)"'|' include/aodvConfigVersion.cmake.in >"$(lib)/cmake/aodv/aodvConfigVersion.cmake"
 	chmod 644 "$(lib)/pkgconfig/aodv.pc" "$(lib)/cmake/aodv/aodvConfigVersion.cmake"
 	install -m 644 bindings/python/aodv.py "$(site)"
-	install -d "$(ns3)"
+	install -d "$(ns3)" "$(share)/mesh/wireshark"
+	install -m 644 wireshark/mesh_data.lua "$(share)/mesh/wireshark"
 	install -m 644 bindings/ns3/*.h bindings/ns3/*.cc "$(ns3)"
 
 uninstall:
@@ -80,7 +81,7 @@ uninstall:
 	rm -f "$(man)/man5/mesh.5" "$(bash)/mesh" "$(zsh)/_mesh"
 	rm -f "$(include)/aodv.h" "$(include)/aodv.hpp" "$(lib)/libaodv.a" "$(lib)/libaodv.so" "$(lib)/libaodv.so.1"
 	rm -f "$(lib)/pkgconfig/aodv.pc" "$(site)/aodv.py"
-	rm -rf "$(ns3)" "$(lib)/cmake/aodv"
+	rm -rf "$(ns3)" "$(share)/mesh/wireshark" "$(lib)/cmake/aodv"
 	[ ! -d "$(share)/mesh" ] || rmdir "$(share)/mesh" 2>/dev/null || :
 
 .PHONY: all check dist play install uninstall
