@@ -4,6 +4,7 @@
 # itself.
 
 : "${program:?}" "${called:?}" "${crate:?}"
+: "${line=}" # what mesh_check wrote
 
 # The text of a line without bytes that a terminal heeds, and cut off.
 plain() {
