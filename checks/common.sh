@@ -1,6 +1,16 @@
 # shellcheck shell=sh
 # What the checks share. A check ends with status 0 where all holds, 1 where something doesn't, and 77
 # where a tool that it needs is missing; its last line then says which.
+case ${1-} in
+--help | -h)
+    sed -n '2,/^[^#]/s/^# //p' "$0"
+    exit
+    ;;
+?*)
+    echo "usage: checks/${0##*/}" >&2
+    exit 2
+    ;;
+esac
 case $0 in */*) top=${0%/*}/.. ;; *) top=.. ;; esac
 top=$(cd "$top" && pwd -P) || exit 1
 

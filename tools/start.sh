@@ -169,6 +169,7 @@ tell_status() {
     9 | 10) [ -t 2 ] || [ "$crate${writes:+:}" = mesh_explore: ] || return 0 ;;
     6) ! is_broken_pipe || return 0 ;;
     esac
+    if [ "$status" = 3 ] && [ -t 2 ] && . "$top/tools/input.sh" && tell_refused "$@"; then return; fi
     echo "$called: status $status: $(meaning_of "$status")" >&2
 }
 
@@ -184,8 +185,10 @@ hold_line() {
 write_line() {
     line=$(cat <&5)
     [ -z "$line" ] || printf '%s\n' "$line" | cat 2>/dev/null || status=6
-    [ "$status:$line" != "0:yes nodes 0 edges 0" ] ||
-        echo "$called: no table was shown: the text has no line show ADDR (mesh run writes one for each line show)" >&2
+    case $status:${MESH_QUIET-} in
+    0:) tell_text >&2 ;;
+    *) [ -z "$feeder" ] || kill "$feeder" "$tailer" 2>/dev/null ;;
+    esac
 }
 
 # Tells each second how long the program has run, and in how much memory. What is written next stands in its place.
@@ -237,11 +240,16 @@ run_to_end() {
 run_and_tell() {
     # A program in the background would read from /dev/null.
     exec 3<&0
-    holds=
+    holds='' feeder=''
     if [ "$crate" = mesh_check ] && hold_line; then holds=1; else exec 4>&1 5</dev/null; fi
-    "$program" "$@" <&3 3<&- >&4 4>&- 5<&- &
+    # shellcheck source=tools/input.sh
+    if [ -n "$holds" ] && . "$top/tools/input.sh" && feed; then
+        "$program" "$@" </dev/fd/9 3<&- >&4 4>&- 5<&- 6>&- 8<&- 9>&- &
+    else
+        "$program" "$@" <&3 3<&- >&4 4>&- 5<&- &
+    fi
     child=$!
-    exec 3<&- 4>&-
+    exec 3<&- 4>&- 6>&- 9>&-
     teller=
     if [ -n "$searches" ] && [ -t 2 ]; then
         tell_progress &
@@ -251,21 +259,45 @@ run_and_tell() {
     [ -z "$teller" ] || kill "$teller" 2>/dev/null
     pass_on
     [ -z "$holds" ] || write_line
-    tell_status
+    tell_status "$@"
     exit "$status"
 }
 
 # Sets `program` to that of the crate $1. Where none is made of the files as they stand it is made first, without
-# a proof. In an installed copy the program lies ready, in the folder programs.
+# a proof. In an installed or unpacked copy the program lies ready, in the folder programs.
 find_program() {
     program=$top/programs/$1
     [ ! -x "$program" ] || return 0
+    if [ -x "$program.unproved" ]; then
+        program=$program.unproved
+        tell_unproved "$1" "see MANIFEST"
+        return
+    fi
     program=$top/crates/$1/out/$1
     ! is_current "$1" "$program" || return 0
     program=$program.unproved
-    is_current "$1" "$program" || "$top/build" --unproved "$1" </dev/null >&2 || exit
-    # A sweep says it once, for all its runs.
-    [ -n "${MESH_IS_TOLD-}" ] || echo "$called: this program is not proved here; $(proving "$1")" >&2
+    is_current "$1" "$program" || make_program "$1" || exit
+    tell_unproved "$1" "$(proving "$1")"
+}
+
+# Makes the program of the crate $1, and says before it what that takes.
+make_program() {
+    [ -n "${MESH_QUIET-}" ] || ! command -v rt >/dev/null ||
+        echo "$called: the first start makes its program, in about a minute; ./build --unproved makes those of all" \
+            "commands at once, in about two minutes on four processors" >&2
+    "$top/build" --unproved "$1" </dev/null >&2
+}
+
+# Says that the program of the crate $1 is not proved, and then $2: at a terminal, and once a day. A file beside the
+# program, or in a folder of the user's, remembers it.
+tell_unproved() {
+    if [ -n "${MESH_QUIET-}" ] || [ ! -t 2 ]; then return; fi
+    for folder in "${program%/*}" "${XDG_CACHE_HOME:-${HOME-}/.cache}/mesh"; do
+        [ -z "$(find "$folder/$1.told" -mtime -1 2>/dev/null)" ] || return 0
+        (mkdir -p "$folder" && : >"$folder/$1.told") 2>/dev/null || continue
+        echo "$called: this program is not proved here; $2 (told once a day; MESH_QUIET=1: never)" >&2
+        return
+    done
 }
 
 # start CRATE WORD..: starts the program of the crate with these words.
@@ -389,7 +421,7 @@ refuse_option() {
     done
     # shellcheck disable=SC2086 # each is a word
     case $1 in
-    --variant*) refuse "$call has no --variant${runs:+: it runs $runs}" ;;
+    --variant | --variant=*) refuse "$call has no --variant${runs:+: it runs $runs}" ;;
     *) refuse "$call has no option $1${options:+: it has $(either $options)}" ;;
     esac
 }

@@ -6,8 +6,9 @@
 
 An address is given as anything that ipaddress.IPv4Address takes, and returned as an IPv4Address. A call that is refused
 raises Refused; the router is then as it was, except that after MALFORMED and NAMES_STRANGER the packet is gone from the
-inbox. A number that has no 32 bits raises ValueError, and the library isn't called. One router is used by one thread at a time. The library is libaodv.so.1 of the file that AODV_LIBRARY names, of
-the repository where this file stands in it, or of the system."""
+inbox. A number that has no 32 bits raises ValueError, and the library isn't called. One router is used by one thread at
+a time. The library is the file that AODV_LIBRARY names, libaodv.so.1 beside this file, or of the repository or the
+unpacked tar ball in which this file lies, or of the system."""
 import ctypes
 import enum
 import operator
@@ -195,8 +196,9 @@ _WORDS = {
 
 def _load() -> ctypes.CDLL:
     here = os.path.dirname(os.path.realpath(__file__))
-    built = os.path.join(here, "..", "..", "out", "libaodv.so.1")
-    library = ctypes.CDLL(os.environ.get("AODV_LIBRARY") or (built if os.path.exists(built) else "libaodv.so.1"))
+    places = [os.path.join(here, *it, "libaodv.so.1") for it in ([], ["..", "..", "out"], ["..", "..", "lib"])]
+    built = next(filter(os.path.exists, places), "libaodv.so.1")
+    library = ctypes.CDLL(os.environ.get("AODV_LIBRARY") or built)
     for name, words in _WORDS.items():
         call = getattr(library, name)
         call.argtypes, call.restype = words, U32

@@ -1,13 +1,4 @@
-"""The rows of sweeps: how a file of them is read, and the table and the plot that are made of them.
-
-    import meshtable
-
-    rows = list(meshtable.read("rows.csv"))
-    print(meshtable.interval([int(row["delivered"]) for row in rows if row["variant"] == "reply"]))
-
-A row is a dict by the names of HEAD, and all its values are text; `mesh sweep --help` says what they mean. Intervals
-are those of Student's t, by a table up to 30 degrees of freedom, and beyond it by the normal's quantile with two
-terms of Student's expansion, which has the same four digits."""
+"""What the package meshtable is made of."""
 from __future__ import annotations
 
 import collections

@@ -1,28 +1,7 @@
-"""Reads the text of `mesh run` as records, and drives `mesh run` line by line.
-
-    import meshtext
-
-    for record in meshtext.records(open("run.txt")):
-        if record.kind == "delivered":
-            print(record.event, record.originator, record.destination, record.text)
-
-Each line of a text is one record, a dataclass: `kind` names it, and its fields are what the line says.
-`str(record)` is the line again, byte for byte. docs/FORMATS.md says what each line means. All records have
-
-    kind    what the line is, as `link`, `sent` or `done`
-    line    the number of the line in the text, from 1
-    event   how many events there were up to this line, itself counted
-    below   the number of the line that it stands below, and its own for a line that stands below none
+"""What the package meshtext is made of: packets, the forms of lines, the reader of a text, and a run over pipes.
 
 An effect also has what the line above it says: the `node` that acted, the number of the `copy` that was
-heard or lost, and its `packet`. A packet is decoded by the layouts of RFC 3561 into a dataclass of its own.
-`pandas.DataFrame(records)` reads records as they are: a column for each field, a row for each line.
-
-    with meshtext.Mesh() as mesh:
-        mesh.do("node 10.0.0.1")
-        print(*mesh.do("show 10.0.0.1"), sep="\n")
-
-Mesh runs the program, and `do` answers the records of one line. This needs Python 3.8 and nothing else."""
+heard or lost, and its `packet`. A packet is decoded by the layouts of RFC 3561 into a dataclass of its own."""
 from __future__ import annotations
 
 import contextlib
@@ -327,6 +306,12 @@ for _kind, _where, _form, _from in _FORMS:
         _KINDS.setdefault((_group, _form.split()[0]), []).append(_made)
 
 
+def kinds() -> Dict[str, List[str]]:
+    """The kinds of records, each with the names of its fields: first those that its line says, in their order, and
+    then those that it has from the line above it."""
+    return {kind: [name for _, name, _, _ in string.Formatter().parse(form) if name] + above.split() for kind, _, form, above in _FORMS}
+
+
 class Reader:
     """Reads one text line by line, for whoever gets the lines by and by; `records` reads a file with it."""
 
@@ -425,7 +410,7 @@ class Full(Ended):
 
 def program() -> str:
     """The program: what MESH names in the environment, or else `mesh` of this repository or of the PATH."""
-    top = os.path.dirname(os.path.dirname(os.path.realpath(__file__)))
+    top = os.path.dirname(os.path.dirname(os.path.dirname(os.path.realpath(__file__))))
     beside = [f"{top}/bin/mesh", f"{top}/mesh"]
     found = os.environ.get("MESH") or next(filter(os.path.isfile, beside), None) or shutil.which("mesh")
     if not found:
@@ -511,3 +496,9 @@ class Mesh:
     def _close(self) -> None:
         with contextlib.suppress(BrokenPipeError):
             self._child.stdin.close()
+
+
+# The classes are the package's own to whoever looks at them.
+for _made in [*globals().values()]:
+    if isinstance(_made, type) and _made.__module__ == __name__:
+        _made.__module__ = __package__
