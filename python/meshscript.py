@@ -31,6 +31,8 @@ from typing import Any, Callable, Iterator, List, NoReturn, Optional, Tuple
 TOP = os.path.dirname(os.path.dirname(os.path.realpath(__file__)))
 WRONG, READ, WRITE, MEMORY, FAULT, READER_GONE = 1, 5, 6, 7, 70, 141
 INPUT, OUTPUT, ERRORS = 0, 1, 2
+# So many seconds a signal waits at most.
+WAIT = 0.2
 # A byte order mark.
 MARK = b"\xef\xbb\xbf"
 
@@ -200,6 +202,20 @@ class Lines:
         """Adds a line, with its line feed."""
         with told(Unwritten, "standard output" if self.name == "-" else self.name):
             write_all(self.number, line.encode(errors="surrogateescape"))
+
+
+def given_by(made: Any) -> Iterator[Any]:
+    """What an iterator of a pool of threads gives, as it comes. The wait has an end, since a signal that another thread
+    has taken ends none."""
+    import multiprocessing
+
+    while True:
+        try:
+            yield made.next(WAIT)
+        except multiprocessing.TimeoutError:
+            continue
+        except StopIteration:
+            return
 
 
 @contextlib.contextmanager
