@@ -38,6 +38,8 @@ mod peers;
 #[cfg(test)]
 mod points;
 #[cfg(test)]
+mod report;
+#[cfg(test)]
 mod restore;
 #[cfg(test)]
 mod router_faults;
