@@ -281,8 +281,8 @@ def _look_at_input(is_read: bool) -> None:
 
 
 def _heed_signals() -> None:
-    """A signal ends the script as an exception does, so that what it has begun is ended; but not where it is ignored, as
-    nohup asks for it."""
+    """A signal ends the script as an exception does, so that what it has begun is ended; but not where it is ignored,
+    as nohup asks for it."""
     for it in (signal.SIGHUP, signal.SIGTERM):
         if signal.getsignal(it) == signal.SIG_DFL:
             signal.signal(it, lambda number, _: sys.exit(128 + number))

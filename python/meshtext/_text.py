@@ -169,8 +169,7 @@ def decode(data: bytes) -> Packet:
 
 # ---- how a field is written, by its type in the table below
 
-# A number is below 2^64, and so has at most 20 digits.
-_NUM = "(?:0|[1-9][0-9]{0,19})"
+_NUM = "(?:0|[1-9][0-9]{0,19})"  # below 2^64
 _PART = "(?:25[0-5]|2[0-4][0-9]|1[0-9][0-9]|[1-9]?[0-9])"
 _ADDR = rf"{_PART}(?:\.{_PART}){{3}}"
 _LIST = f"{_ADDR}(?:,{_ADDR})*"
@@ -257,12 +256,12 @@ _FORMS = (
 )
 _BELOW = dict(dict.fromkeys(_EVENTS, "event"), show="show", route="route", flight="flight", place="place", move="place")
 LAST = ("done", "bad", "full")
+LINE_LIMIT = 600  # a longer line is refused, a remark too
 
 
 @dataclass
 class Record:
-    """A line of a text; `str` of it is the line. Each kind is a dataclass of its own below this one, as TookLine
-    for `took`, with the fields that the table above names."""
+    """A line of a text, which `str` of it is. Each kind is a dataclass of its own, as TookLine, by the table above."""
 
     kind: str = field(init=False)
     line: int = field(init=False, default=0)
@@ -341,7 +340,8 @@ class Reader:
 
     def _record_of(self, text: str, is_effect: bool) -> Record:
         word = (text.split() or [""])[0]
-        for kind in (it for group in self._groups(is_effect) for it in _KINDS.get((group, word), ())):
+        head = self._head.kind if is_effect and self._head else ""
+        for kind in (it for group in {_BELOW.get(head, ""), head} for it in _KINDS.get((group, word), ())):
             try:
                 if record := kind.read(text):
                     return record
@@ -349,13 +349,6 @@ class Reader:
                 raise NotAText(self.line, f"{why}: {text[:80]!r}") from None
         place = f" below {str(self._head)[:80]!r}" if is_effect and self._head else ""
         raise NotAText(self.line, f"no line of a text{place}: {text[:80]!r}")
-
-    def _groups(self, is_effect: bool) -> Iterable[str]:
-        """What a line stands below: nothing, or the kind of the line above it and the group of that."""
-        if not is_effect:
-            return [""]
-        head = self._head.kind if self._head else ""
-        return dict.fromkeys(it for it in (_BELOW.get(head, ""), head) if it)
 
     def _fill(self, record: Record, head: Record) -> None:
         for name in record._above:
@@ -382,10 +375,6 @@ def records(lines: Iterable[Union[str, bytes]], part: bool = False) -> Iterator[
 
 
 # ---- a run over pipes
-
-
-# A longer line is refused, a remark too.
-LINE_LIMIT = 600
 
 
 class Ended(Exception):
@@ -430,8 +419,7 @@ class Mesh:
     def __init__(self, variant: Optional[str] = None, program_path: Optional[str] = None) -> None:
         words = [program_path or program(), "run", *(["--variant", variant] if variant else [])]
         self._child = subprocess.Popen(words, stdin=subprocess.PIPE, stdout=subprocess.PIPE)
-        self._reader = Reader()
-        self._mark, self._given = b"", 0
+        self._reader, self._mark, self._given = Reader(), b"", 0
 
     def __enter__(self) -> Mesh:
         return self
@@ -452,7 +440,6 @@ class Mesh:
         if self._reader.last or self._child.stdin.closed:
             raise Ended("the run has ended already")
         self._given += 1
-        # A remark is answered only where it is too long.
         is_alone = not self._mark or line.split(" ")[0] == "node" or line[:1] == "#"
         data = line.encode(errors="surrogateescape")
         self._write(data + b"\n")

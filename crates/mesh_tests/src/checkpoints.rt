@@ -34,6 +34,19 @@ const TWO: [u8; 182] = [
     0, 0, 0, 0,
 ];
 
+/// Three nodes, of which node 0 has links to the others. It has asked for a route to node 1: the
+/// copy for node 1 was lost, and node 2 has taken its own and asked on. One copy is in flight.
+const THREE: [u8; 245] = [
+    65, 87, 78, 49, 0, 0, 0, 237, 0, 0, 0, 0, 0, 0, 0, 0, 12, 0, 0, 0, 0, 0, 0, 0, 9, 0, 0, 0, 0, 0,
+    0, 0, 1, 0, 0, 0, 0, 0, 0, 0, 1, 0, 0, 0, 0, 0, 0, 0, 0, 0, 0, 0, 0, 0, 0, 0, 0, 0, 0, 0, 0, 0,
+    0, 0, 0, 0, 3, 10, 0, 0, 1, 0, 0, 0, 1, 10, 0, 0, 2, 0, 0, 0, 1, 10, 0, 0, 3, 0, 0, 0, 1, 1, 0,
+    0, 0, 0, 0, 0, 0, 9, 0, 0, 0, 2, 0, 0, 0, 0, 0, 1, 0, 0, 0, 0, 0, 1, 0, 1, 0, 1, 0, 0, 0, 0, 1,
+    0, 1, 120, 0, 0, 0, 0, 0, 0, 0, 1, 0, 0, 0, 0, 0, 0, 0, 0, 0, 0, 0, 0, 0, 0, 0, 1, 0, 1, 0, 0,
+    0, 0, 0, 2, 1, 1, 1, 0, 0, 0, 0, 0, 0, 0, 1, 0, 0, 0, 0, 0, 1, 0, 0, 0, 0, 0, 0, 0, 2, 0, 0, 0,
+    1, 1, 0, 0, 0, 2, 1, 0, 0, 0, 0, 0, 0, 0, 4, 0, 0, 0, 1, 0, 0, 0, 0, 0, 0, 0, 3, 0, 2, 0, 0, 0,
+    24, 1, 8, 0, 1, 0, 0, 0, 1, 10, 0, 0, 2, 0, 0, 0, 0, 10, 0, 0, 1, 0, 0, 0, 2,
+];
+
 #[test]
 fn validates_an_empty_checkpoint(rt: HostRuntime) {
     assert!(rt; matches!(validate(&EMPTY), Ok(0)));
@@ -70,4 +83,9 @@ fn loads_the_two(alloc: Global) -> bool {
 #[test]
 fn a_world_is_loaded(rt: HostRuntime) {
     assert!(rt; loads_the_two(rt.alloc()));
+}
+
+#[test]
+fn a_world_in_which_a_request_flies_is_loaded(rt: HostRuntime) {
+    assert!(rt; matches!(loaded(rt.alloc(), &THREE), Ok((3, Some(9)))));
 }
