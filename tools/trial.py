@@ -44,6 +44,7 @@ fn main(rt: HostRuntime) {
     reads::aodv_waiting(&mut h, 2, &mut n);
     reads::aodv_seen(&mut h, 2, 1, &mut b);
     exports::aodv_free(rt.alloc(), &mut h);
+    h.let_go();
 }
 """,
 }
